@@ -1,0 +1,9 @@
+pub mod Meaning
+pub mod Numbers
+pub mod Submit
+pub mod Collect
+pub mod Turns
+pub mod Questions
+pub mod Sound
+pub mod Told
+pub mod Fault

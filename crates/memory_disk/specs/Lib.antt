@@ -1,0 +1,4 @@
+pub mod Means
+pub mod Stored
+pub mod Turn
+pub mod SoundFacts

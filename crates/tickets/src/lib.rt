@@ -1,0 +1,9 @@
+mod calls;
+mod front;
+mod place;
+mod table;
+
+pub use front::Front;
+pub use place::MOST_BYTES;
+pub use place::Place;
+pub use table::Table;
