@@ -53,3 +53,12 @@ pub due-short : (k : Kind) (count : ℕ) → count ≤ 8 → due-length k count 
 due-short Read count h = omega arith
 due-short Write count h = omega arith
 due-short Flush count h = omega arith
+
+kind-by : (o : Option Kind) (size : ℕ) (q : Request) (given : ℕ) (k : Kind) → form-as o size q given ≡ Ok k → o ≡ Some k
+kind-by None size q given k e = never-ok _ causes.BadKind k e
+kind-by (Some j) size q given k e =
+    ap Some (formed-by (fair-count j (q .first) (q .count)) (ltb size (q .first + q .count)) (eqb given (due-length j (q .count))) j k e .3)
+
+-- and it is of the kind that its number names
+pub form-kind : (size : ℕ) (q : Request) (given : ℕ) (k : Kind) → form size q given ≡ Ok k → kind-of (q .kind) ≡ Some k
+form-kind size q given k e = kind-by (kind-of (q .kind)) size q given k e

@@ -1,0 +1,7 @@
+mod Lists
+mod Change
+mod Named
+mod Disk
+mod Promise
+mod OpenFacts
+mod LogFacts

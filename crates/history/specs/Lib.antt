@@ -1,0 +1,5 @@
+pub mod History
+pub mod Steps
+pub mod Promise
+pub mod Questions
+pub mod Log
