@@ -100,7 +100,9 @@ fn show_fault(out: &mut String, fault: Option<Fault>) -> fmt::Result {
 fn show_event(out: &mut String, event: &Event) -> fmt::Result {
     match event {
         Event::Submitted {
-            request, answer, ..
+            request,
+            answer,
+            ..
         } => show_submitted(out, request.tag, *answer),
         Event::Turned { ticks, .. } => write!(out, "turn: {ticks} ticks"),
         Event::Collected {
@@ -138,7 +140,10 @@ pub(crate) fn show_lines(out: &mut String, lines: &[Line], log: &[Event]) -> fmt
 
 /// The shape of the stack.
 pub(crate) fn show_stack(out: &mut String, size: u32, capacity: u32, height: u8) -> fmt::Result {
-    writeln!(out, "stack: size {size}, capacity {capacity}, height {height}")
+    writeln!(
+        out,
+        "stack: size {size}, capacity {capacity}, height {height}"
+    )
 }
 
 /// A bottom memory, whole.

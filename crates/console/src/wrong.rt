@@ -33,7 +33,8 @@ impl Wrong {
             Wrong::Kind => "KIND is not read, write, flush or a number up to 255",
             Wrong::First => "FIRST is not a number up to 4294967295",
             Wrong::Count => "COUNT is not a number up to 4294967295",
-            Wrong::Data => "DATA is not -, fill:N or from:N with N up to 255, nor one of these with :LEN",
+            Wrong::Data =>
+                "DATA is not -, fill:N or from:N with N up to 255, nor one of these with :LEN",
             Wrong::Length => "LEN is not a number up to 65536",
             Wrong::Tick => "TICK is not a number up to 4294967295",
             Wrong::Room => "ROOM is not a number up to 65536",

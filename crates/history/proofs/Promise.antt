@@ -158,7 +158,8 @@ pub promise : {m m′ : Meaning} {h : List Told} → Whole m → Ran m h m′ �
 promise {m} {m′} {h} w r z = record {
   reads-see-the-last-write = answered z w r;
   answered-once = apart z r;
-  open-is-accepted-and-unanswered = named-from-none z r;
-  each-once = once-distinct (m′ .tickets) (once-ran r (subst Once (sym z) tt));
-  turns-settle = λ earlier later mid e a b. none-waits b;
+  midway = λ earlier later e. cut earlier later (subst (λ l. Ran m l m′) (sym e) r);
+  open-is-accepted-and-unanswered = λ earlier later mid e a b. named-from-none z a;
+  each-once = λ earlier later mid e a b. once-distinct (mid .tickets) (once-ran a (subst Once (sym z) tt));
+  turns-settle = λ earlier between later mid mid′ e a b c. none-waits b;
 }

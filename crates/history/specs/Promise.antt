@@ -52,10 +52,14 @@ pub record Promise (m : Meaning) (h : List Told) (m′ : Meaning) : Type 0 where
   -- no two answers are for the same ticket: between two under one tag a new ticket was accepted under it
   pub answered-once : (before between after : List Told) (t mask mask′ : ℕ) (g g′ b b′ : List ℕ)
       → before ++ (collect t g (Ok mask) b ∷ (between ++ (collect t g′ (Ok mask′) b′ ∷ after))) ≡ h → Accepted-in t between
-  -- the device names as open the tickets accepted and not answered, the oldest first
-  pub open-is-accepted-and-unanswered : tags (m′ .tickets) ≡ unanswered h
-  -- and each once
-  pub each-once : distinct (m′ .tickets) ≡ true
+  -- at any time between, the device had a meaning to which the calls before led and from which the calls behind went on
+  pub midway : (earlier later : List Told) → earlier ++ later ≡ h → (mid : Meaning) × Ran m earlier mid × Ran mid later m′
+  -- and then it names as open the tickets accepted and not answered, the oldest first
+  pub open-is-accepted-and-unanswered : (earlier later : List Told) (mid : Meaning) → earlier ++ later ≡ h → Ran m earlier mid → Ran mid later m′
+      → tags (mid .tickets) ≡ unanswered earlier
+  -- each once
+  pub each-once : (earlier later : List Told) (mid : Meaning) → earlier ++ later ≡ h → Ran m earlier mid → Ran mid later m′
+      → distinct (mid .tickets) ≡ true
   -- where n tickets wait, the next n turns leave none waiting if no submit is accepted between
-  pub turns-settle : (earlier later : List Told) (mid : Meaning) → earlier ++ later ≡ h → Ran m earlier mid → Ran mid later m′
-      → None-accepted later → waiting (mid .tickets) ≤ turns later → waiting (m′ .tickets) ≡ 0
+  pub turns-settle : (earlier between later : List Told) (mid mid′ : Meaning) → earlier ++ (between ++ later) ≡ h → Ran m earlier mid → Ran mid between mid′ → Ran mid′ later m′
+      → None-accepted between → waiting (mid .tickets) ≤ turns between → waiting (mid′ .tickets) ≡ 0

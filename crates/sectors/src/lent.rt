@@ -84,13 +84,7 @@ fn write_sector(memory: &mut [u8], named: &[u32; 8], sector: usize, bytes: &[u8]
     }
 }
 
-fn write_sectors(
-    memory: &mut [u8],
-    named: &[u32; 8],
-    first: usize,
-    count: usize,
-    bytes: &[u8],
-)
+fn write_sectors(memory: &mut [u8], named: &[u32; 8], first: usize, count: usize, bytes: &[u8])
     requires { ⌜ (first + count) * sector-bytes ≤ length (now memory) ⌝ ∗ ⌜ count * sector-bytes ≤ length (now bytes) ⌝ }
     ensures { λ r. ⌜ now (memory .exit) ≡ put-run (now (named .entry)) first count (now (bytes .entry)) (now (memory .entry)) ⌝ }
 {
