@@ -1,4 +1,5 @@
 // A list of calls sent to any device, and the history that they make.
+ghost use mathlib.Core.List.{[]};
 ghost use mathlib.Core.Path.{_≡_};
 ghost use Rattle.history.specs.Log.{call-of, Step, Sent-all, Sent-some};
 ghost use Rattle.std.specs.Results.{Cases};
@@ -59,6 +60,24 @@ fn send<D: Device>(heap: Global, device: &mut D, call: Call) -> Result<Event, Al
     }
 }
 
+/// Sends the calls, one after the other, and logs what the device answers.
+fn send_each<D: Device>(
+    heap: Global,
+    device: &mut D,
+    calls: Vec<Call>,
+    log: &mut Vec<Event>,
+) -> Result<(), AllocError>
+    requires { ⌜ vec-items (now log) ≡ [] ⌝ }
+    ensures keeps { λ r. ⌜ (kept (now (device .entry)) → kept (now (device .exit))) ⌝ }
+    ensures heard { λ r. ⌜ (kept (now (device .entry)) → Cases r (λ _. Sent-all meaning does (now (device .entry)) (vec-items calls) (vec-items (now (log .exit))) (now (device .exit))) (λ _. Sent-some meaning does (now (device .entry)) (vec-items calls) (now (device .exit)))) ⌝ }
+{
+    for call in calls {
+        let event = send(heap, device, call)?;
+        log.push(event)?;
+    }
+    Ok(())
+}
+
 /// Sends the calls, one after the other, and returns what the device answered. If memory runs out, the first of the calls
 /// have been sent and the others not.
 pub fn send_all<D: Device>(
@@ -70,9 +89,6 @@ pub fn send_all<D: Device>(
     ensures heard { λ r. ⌜ (kept (now (device .entry)) → Cases r (λ log. Sent-all meaning does (now (device .entry)) (vec-items calls) (vec-items log) (now (device .exit))) (λ _. Sent-some meaning does (now (device .entry)) (vec-items calls) (now (device .exit)))) ⌝ }
 {
     let mut log = Vec::new(heap);
-    for call in calls {
-        let event = send(heap, device, call)?;
-        log.push(event)?;
-    }
+    send_each(heap, device, calls, &mut log)?;
     Ok(log)
 }

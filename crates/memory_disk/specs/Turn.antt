@@ -12,14 +12,9 @@ use Rattle.tickets.specs.declared.place.Place.{Place}
 use Rattle.tickets.specs.declared.front.Front.{Front}
 use Rattle.tickets.specs.Front.{blank}
 use Rattle.tickets.specs.Oldest.{ready-oldest}
-use Rattle.tickets.specs.Open.{places-of}
-use Rattle.tickets.specs.Places.{first-waiting}
+use Rattle.tickets.specs.Open.{places-of, oldest-of}
 use Rattle.memory_disk.specs.Means.{means}
 use Rattle.memory_disk.specs.Stored.{stored}
-
--- where the oldest waiting ticket stands
-abbrev pub oldest-of : Front → Option ℕ
-oldest-of f = first-waiting (places-of f)
 
 abbrev pub ticks-as : Option ℕ → ℕ
 ticks-as None = 0

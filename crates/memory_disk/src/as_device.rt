@@ -58,11 +58,11 @@ pub impl Device for MemoryDisk<'_> as MemoryDiskDevice {
     }
 
     fn open_tickets(&self) -> u32 {
-        self.front.table.places.len() as u32
+        self.front.open_tickets()
     }
 
     fn tag_at(&self, i: u32) -> Option<u32> {
-        self.front.table.tag_at(i as usize)
+        self.front.tag_at(i)
     }
 
     fn state(&self, tag: u32) -> State {

@@ -5,9 +5,9 @@ ghost use lib.ListN.{length};
 ghost use Rattle.device.specs.Meaning.{longest-run, sector-bytes};
 ghost use Rattle.sectors.specs.Memory.{seen};
 ghost use Rattle.tickets.specs.Front.{served, places-as};
-ghost use Rattle.tickets.specs.Open.{places-of, Same-front};
+ghost use Rattle.tickets.specs.Open.{places-of, oldest-of, Same-front};
 ghost use Rattle.memory_disk.specs.Stored.{stored};
-ghost use Rattle.memory_disk.specs.Turn.{oldest-of, turn-ticks, turned-bytes};
+ghost use Rattle.memory_disk.specs.Turn.{turn-ticks, turned-bytes};
 use device::Kind;
 use device::SECTOR;
 use sectors::read_run;
@@ -41,7 +41,7 @@ pub(crate) fn turn(front: &mut Front, memory: &mut [u8]) -> u32
     ensures memory { λ r. ⌜ now (memory .exit) ≡ turned-bytes (now (front .entry)) (now (memory .entry)) ⌝ }
     ensures shape { λ r. ⌜ Same-front (now (front .entry)) (now (front .exit)) ⌝ }
 {
-    let Some(i) = front.table.oldest_waiting() else {
+    let Some(i) = front.oldest_waiting() else {
         return 0;
     };
     let named = front.named;

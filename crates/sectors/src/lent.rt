@@ -2,15 +2,15 @@
 ghost use mathlib.Core.Path.{_≡_};
 ghost use mathlib.Core.List.{_++_};
 ghost use mathlib.Core.Bool.{cond};
-ghost use Prim.Native.Nat.{ℕ, _+_, _*_, _≤_, _<_, min};
+ghost use Prim.Native.Nat.{ℕ, _+_, _*_, _≤_, _<_, _^_, min};
 ghost use lib.ListN.{length, drop};
 ghost use Rattle.device.specs.Meaning.{mask-of, bytes-of, longest-run, sector-bytes};
 ghost use Rattle.sectors.specs.Memory.{listed, names, seen, put-sector, put-run, lies-in};
 use device::LONGEST_RUN;
 use device::SECTOR;
 
-/// Whether a sector is named.
-pub fn is_named(named: &[u32; 8], sector: usize) -> bool
+/// Whether a number is among those that name sectors.
+fn is_listed(named: &[u32; 8], sector: usize) -> bool
     ensures { λ r. ⌜ r ≡ listed sector (now (named .entry)) ⌝ }
 {
     for s in named {
@@ -21,17 +21,32 @@ pub fn is_named(named: &[u32; 8], sector: usize) -> bool
     false
 }
 
-/// The mask of a run, or of its first 8 sectors: bit i is set if its sector i is named.
-pub fn mask(named: &[u32; 8], first: u32, count: u32) -> u8
-    ensures { λ r. ⌜ r ≡ mask-of (names (now (named .entry))) first (min count longest-run) ⌝ }
+/// Whether a sector is named.
+pub fn is_named(named: &[u32; 8], sector: u32) -> bool
+    ensures { λ r. ⌜ r ≡ listed sector (now (named .entry)) ⌝ }
+{
+    is_listed(named, sector as usize)
+}
+
+/// The mask of a run that has at most 8 sectors: bit i is set if its sector i is named.
+fn short_mask(named: &[u32; 8], first: usize, count: u32) -> u8
+    requires { ⌜ first + count < 2 ^ 64 ⌝ ∗ ⌜ count ≤ longest-run ⌝ }
+    ensures { λ r. ⌜ r ≡ mask-of (names (now (named .entry))) first count ⌝ }
 {
     let mut mask = 0;
-    for i in 0..count.min(LONGEST_RUN) {
-        if is_named(named, first as usize + i as usize) {
+    for i in 0..count {
+        if is_listed(named, first + i as usize) {
             mask += 1 << i;
         }
     }
     mask
+}
+
+/// The mask of a run, or of its first 8 sectors.
+pub fn mask(named: &[u32; 8], first: u32, count: u32) -> u8
+    ensures { λ r. ⌜ r ≡ mask-of (names (now (named .entry))) first (min count longest-run) ⌝ }
+{
+    short_mask(named, first as usize, count.min(LONGEST_RUN))
 }
 
 /// Whether a run lies in `memory` bytes, and its bytes in `buffer` bytes.
@@ -46,7 +61,7 @@ fn read_sector(memory: &[u8], named: &[u32; 8], sector: usize, into: &mut [u8])
     requires { ⌜ (sector + 1) * sector-bytes ≤ length (now memory) ⌝ ∗ ⌜ length (now into) ≡ sector-bytes ⌝ }
     ensures { λ r. ⌜ now (into .exit) ≡ seen (now (named .entry)) (now (memory .entry)) sector ⌝ }
 {
-    if is_named(named, sector) {
+    if is_listed(named, sector) {
         into.copy_from_slice(&[0; SECTOR]);
     } else {
         let from = sector * SECTOR;
@@ -78,7 +93,7 @@ fn write_sector(memory: &mut [u8], named: &[u32; 8], sector: usize, bytes: &[u8]
     requires { ⌜ (sector + 1) * sector-bytes ≤ length (now memory) ⌝ ∗ ⌜ length (now bytes) ≡ sector-bytes ⌝ }
     ensures { λ r. ⌜ now (memory .exit) ≡ put-sector (now (named .entry)) sector (now (bytes .entry)) (now (memory .entry)) ⌝ }
 {
-    if !is_named(named, sector) {
+    if !is_listed(named, sector) {
         let to = sector * SECTOR;
         memory[to..to + SECTOR].copy_from_slice(bytes);
     }

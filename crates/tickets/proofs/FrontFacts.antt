@@ -8,13 +8,15 @@ use native.Mathlib.Nat.{min-eq-left}
 use lib.Dec.{eqb, leb, ltb}
 use lib.ListN.{length, take, drop, replicate, getD}
 use Rattle.std.proofs.shelf.Lists.{length-append, length-drop, length-replicate, take-all}
-use Rattle.std.proofs.shelf.Tests.{and-parts, and-from, leb-true, le-leb, eqb-true, eq-eqb, cond-true, cond-false, lt-ltb, le-ltb}
+use Rattle.std.proofs.shelf.Tests.{and-parts, and-from, leb-true, le-leb, eqb-true, eq-eqb, cond-true, cond-false, lt-ltb, le-ltb, ltb-false}
 use Rattle.std.specs.Options.{isSome}
 use Rattle.std.specs.declared.option.Option.{Option}
 use Rattle.std.specs.declared.option.Option.the-variants.{Some, None}
+use Rattle.std.specs.declared.result.Result.{Result}
 use Rattle.std.specs.declared.result.Result.the-variants.{Ok, Err}
 use Rattle.device.specs.declared.interface.Kind.{Kind}
 use Rattle.device.specs.declared.interface.Kind.the-variants.{Read, Write, Flush}
+use Rattle.device.specs.declared.interface.Cause.{Cause}
 use Rattle.device.specs.declared.interface.Cause.the-variants as causes
 use Rattle.device.specs.declared.interface.Request.{Request}
 use Rattle.device.specs.Meaning.{Contents, mask-of, bytes-of, is-read}
@@ -25,7 +27,7 @@ use Rattle.tickets.specs.Fresh.{fresh}
 use Rattle.tickets.specs.Meant.{well, place-of, has-tag}
 use Rattle.tickets.specs.Places.{index-of, first-waiting}
 use Rattle.tickets.proofs.Stands.{Stands, Oldest, stands, oldest, absent-place, absent-has, stands-place}
-use Rattle.tickets.specs.Front.{filled, served, byte-room, due-place}
+use Rattle.tickets.specs.Front.{filled, served, byte-room, due-place, entry-as, admitted-as}
 use Rattle.sectors.proofs.Runs.{length-bytes}
 
 pub none-from : {A : Type 0} (o : Option A) → isSome o ≡ false → o ≡ None
@@ -136,3 +138,30 @@ module _ (t i : ℕ) (ps : List Place) (r : Option ℕ) (e : r ≡ index-of t ps
 
 pub at-oldest : (i : ℕ) (ps : List Place) (r : Option ℕ) → r ≡ first-waiting ps → r ≡ Some i → Oldest ps i
 at-oldest i ps r e h = oldest i ps (sym e ∙ h)
+
+never : (A : Type 0) {B : Type 0} (c : Cause) (x : B) → _≡_ {A = Result B Cause} (Err c) (Ok x) → A
+never A c x e = let z : _≡_ {A = ℕ} 0 1 = cc in absurd (omega arith)
+
+full-parts : (b : Bool) (k k′ : Kind) → _≡_ {A = Result Kind Cause} (cond b (Err causes.Full) (Ok k)) (Ok k′) → (k ≡ k′) × (b ≡ false)
+full-parts true k k′ e = never _ causes.Full k′ e
+full-parts false k k′ e = ((cc), refl)
+
+entry-parts : (most : ℕ) (o : Option ℕ) (n : ℕ) (k k′ : Kind) → entry-as most o n k ≡ Ok k′ → (k ≡ k′) × (o ≡ None) × (eqb n most ≡ false)
+entry-parts most (Some i) n k k′ e = never _ causes.TagOpen k′ e
+entry-parts most None n k k′ e = let f = full-parts (eqb n most) k k′ e in (f .0, refl, f .1)
+
+-- what an admitted request is: well-formed, under a tag that is not open, and with a place to spare
+pub admitted-parts : (most : ℕ) (r : Result Kind Cause) (ps : List Place) (t : ℕ) (k : Kind) → admitted-as most r ps t ≡ Ok k
+    → (r ≡ Ok k) × (index-of t ps ≡ None) × (eqb (length ps) most ≡ false)
+admitted-parts most (Err c) ps t k e = never _ c k e
+admitted-parts most (Ok j) ps t k e = let f = entry-parts most (index-of t ps) (length ps) j k e in (ap Ok (f .0), f .1, f .2)
+
+room-by-test : (r l : Bool) (p q : Place) (room : ℕ) → ltb room (byte-room p) ≡ l → _≡_ {A = Result Place Cause} (cond r (cond l (Err causes.ShortBuffer) (Ok p)) (Err causes.Waits)) (Ok q) → byte-room q ≤ room
+room-by-test true true p q room h e = never _ causes.ShortBuffer q e
+room-by-test true false p q room h e = let f : p ≡ q = cc in (let g = ltb-false room (byte-room p) h in let b : byte-room p ≡ byte-room q = ap byte-room f in omega (arith, g, b))
+room-by-test false l p q room h e = never _ causes.Waits q e
+
+-- a ticket that is answered has room for its bytes
+pub due-room : (o : Option Place) (room : ℕ) (q : Place) → due-place o room ≡ Ok q → byte-room q ≤ room
+due-room None room q e = never _ causes.NotOpen q e
+due-room (Some p) room q e = room-by-test (p .ready) (ltb room (byte-room p)) p q room refl e

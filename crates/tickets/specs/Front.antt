@@ -15,6 +15,7 @@ use Rattle.device.specs.declared.interface.Cause.the-variants as causes
 use Rattle.device.specs.declared.interface.State.{State}
 use Rattle.device.specs.declared.interface.State.the-variants as states
 use Rattle.device.specs.declared.interface.Request.{Request}
+use Rattle.device.specs.Questions.{state-by}
 use Rattle.device.specs.Submit.{form}
 use Rattle.device.specs.Meaning.{Contents, bytes-of, mask-of, is-read, sector-bytes}
 use Rattle.sectors.specs.Memory.{names}
@@ -87,7 +88,7 @@ rest-as (Err c) t ps = ps
 
 abbrev pub state-place : Option Place → State
 state-place None = states.NotOpen
-state-place (Some p) = cond (p .ready) states.Ready states.Waiting
+state-place (Some p) = state-by (p .ready)
 
 abbrev pub count-place : Option Place → ℕ
 count-place None = 0

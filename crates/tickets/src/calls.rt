@@ -4,15 +4,19 @@ ghost use mathlib.Core.List.{[], _++_};
 ghost use Prim.Native.Nat.{ℕ, _≤_, min};
 ghost use lib.ListN.{length, take, drop};
 ghost use Rattle.device.specs.Sound.{most-sectors, most-tickets};
+ghost use Rattle.std.specs.Options.{mapped};
 ghost use Rattle.std.specs.Vec.{made};
+ghost use Rattle.std.specs.declared.result.Result.the-variants.{Ok};
 ghost use Rattle.tickets.specs.Fresh.{run-bytes};
-ghost use Rattle.tickets.specs.Meant.{place-of};
+ghost use Rattle.tickets.specs.Meant.{place-of, less};
 ghost use Rattle.tickets.specs.Front.{answer-as, put-in, mask-as, handed-as, rest-as, state-place, count-place};
-ghost use Rattle.tickets.specs.Open.{places-of, admission, answered-place, Same-front};
+ghost use Rattle.tickets.specs.Places.{tag-of, first-waiting};
+ghost use Rattle.tickets.specs.Open.{places-of, place-at, admission, answered-place, Due, Same-front};
 use crate::front::Front;
 use crate::place::Place;
 use crate::table::Table;
 use device::Cause;
+use device::Kind;
 use device::MOST_SECTORS;
 use device::MOST_TICKETS;
 use device::Request;
@@ -52,31 +56,66 @@ impl Front {
         })
     }
 
-    /// Adds the ticket of a request, or names the first cause to refuse it.
-    pub fn submit(&mut self, request: Request, bytes: &[u8]) -> Result<(), Cause>
-        ensures answers { λ r. ⌜ r ≡ answer-as (admission (now (self .entry)) request (length (now (bytes .entry)))) ⌝ }
-        ensures places { λ r. ⌜ places-of (now (self .exit)) ≡ put-in (admission (now (self .entry)) request (length (now (bytes .entry)))) (places-of (now (self .entry))) (now (self .entry) .named) request (now (bytes .entry)) ⌝ }
-        ensures shape { λ r. ⌜ Same-front (now (self .entry)) (now (self .exit)) ⌝ }
+    /// The number of open tickets.
+    pub fn open_tickets(&self) -> u32
+        ensures { λ r. ⌜ r ≡ length (places-of (now (self .entry))) ⌝ }
     {
-        let kind = examine(request, bytes.len(), self.size)?;
+        self.table.places.len() as u32
+    }
+
+    /// The tag of the i-th oldest ticket, from 0.
+    pub fn tag_at(&self, i: u32) -> Option<u32>
+        ensures { λ r. ⌜ r ≡ tag-of i (places-of (now (self .entry))) ⌝ }
+    {
+        self.table.tag_at(i as usize)
+    }
+
+    /// Where the oldest ticket that waits stands.
+    pub fn oldest_waiting(&self) -> Option<usize>
+        ensures { λ r. ⌜ r ≡ first-waiting (places-of (now (self .entry))) ⌝ }
+    {
+        self.table.oldest_waiting()
+    }
+
+    /// The kind under which a request is accepted, or the first cause to refuse it.
+    pub fn admit(&self, request: Request, given: usize) -> Result<Kind, Cause>
+        ensures { λ r. ⌜ r ≡ admission (now (self .entry)) request given ⌝ }
+    {
+        let kind = examine(request, given, self.size)?;
         if self.table.find(request.tag).is_some() {
             return Err(Cause::TagOpen);
         }
         if self.table.places.len() == self.capacity as usize {
             return Err(Cause::Full);
         }
+        Ok(kind)
+    }
+
+    /// Adds the ticket of an admitted request.
+    fn add(&mut self, request: Request, kind: Kind, bytes: &[u8])
+        requires { ⌜ admission (now self) request (length (now bytes)) ≡ Ok kind ⌝ }
+        ensures places { λ r. ⌜ places-of (now (self .exit)) ≡ put-in (Ok kind) (places-of (now (self .entry))) (now (self .entry) .named) request (now (bytes .entry)) ⌝ }
+        ensures shape { λ r. ⌜ Same-front (now (self .entry)) (now (self .exit)) ⌝ }
+    {
         let mask = mask(&self.named, request.first, request.count);
         let place = Place::waiting(request, kind, mask, bytes);
         self.table.places.push_reserved(place);
+    }
+
+    /// Adds the ticket of a request, or names the first cause to refuse it.
+    pub fn submit(&mut self, request: Request, bytes: &[u8]) -> Result<(), Cause>
+        ensures answers { λ r. ⌜ r ≡ answer-as (admission (now (self .entry)) request (length (now (bytes .entry)))) ⌝ }
+        ensures places { λ r. ⌜ places-of (now (self .exit)) ≡ put-in (admission (now (self .entry)) request (length (now (bytes .entry)))) (places-of (now (self .entry))) (now (self .entry) .named) request (now (bytes .entry)) ⌝ }
+        ensures shape { λ r. ⌜ Same-front (now (self .entry)) (now (self .exit)) ⌝ }
+    {
+        let kind = self.admit(request, bytes.len())?;
+        self.add(request, kind, bytes);
         Ok(())
     }
 
-    /// Takes a ready ticket out and hands its answer over, or names the first cause to refuse.
-    pub fn collect(&mut self, tag: u32, buffer: &mut [u8]) -> Result<u8, Cause>
-        ensures answers { λ r. ⌜ r ≡ mask-as (answered-place (now (self .entry)) tag (length (now (buffer .entry)))) ⌝ }
-        ensures hands { λ r. ⌜ now (buffer .exit) ≡ handed-as (answered-place (now (self .entry)) tag (length (now (buffer .entry)))) (now (buffer .entry)) ⌝ }
-        ensures places { λ r. ⌜ places-of (now (self .exit)) ≡ rest-as (answered-place (now (self .entry)) tag (length (now (buffer .entry)))) tag (places-of (now (self .entry))) ⌝ }
-        ensures shape { λ r. ⌜ Same-front (now (self .entry)) (now (self .exit)) ⌝ }
+    /// Where the ticket stands that a collect into so much room answers, or the first cause to refuse it.
+    fn due(&self, tag: u32, room: usize) -> Result<usize, Cause>
+        ensures { λ r. ⌜ Due (now (self .entry)) tag room r ⌝ }
     {
         let Some(i) = self.table.find(tag) else {
             return Err(Cause::NotOpen);
@@ -86,27 +125,55 @@ impl Front {
             return Err(Cause::Waits);
         }
         let n = place.byte_count();
-        if buffer.len() < n {
+        if room < n {
             return Err(Cause::ShortBuffer);
         }
+        Ok(i)
+    }
+
+    /// Takes the i-th ticket out, and hands its bytes over.
+    fn take_out(&mut self, tag: u32, i: usize, buffer: &mut [u8]) -> u8
+        requires { ⌜ Due (now self) tag (length (now buffer)) (Ok i) ⌝ }
+        ensures mask { λ r. ⌜ r ≡ place-at (now (self .entry)) i .mask ⌝ }
+        ensures hands { λ r. ⌜ now (buffer .exit) ≡ handed-as (Ok (place-at (now (self .entry)) i)) (now (buffer .entry)) ⌝ }
+        ensures places { λ r. ⌜ places-of (now (self .exit)) ≡ less tag (places-of (now (self .entry))) ⌝ }
+        ensures shape { λ r. ⌜ Same-front (now (self .entry)) (now (self .exit)) ⌝ }
+    {
+        let place = &self.table.places[i];
+        let n = place.byte_count();
         hand(place, n, buffer);
         let done = self.table.places.remove(i);
-        Ok(done.mask)
+        done.mask
+    }
+
+    /// Takes a ready ticket out and hands its answer over, or names the first cause to refuse.
+    pub fn collect(&mut self, tag: u32, buffer: &mut [u8]) -> Result<u8, Cause>
+        ensures answers { λ r. ⌜ r ≡ mask-as (answered-place (now (self .entry)) tag (length (now (buffer .entry)))) ⌝ }
+        ensures hands { λ r. ⌜ now (buffer .exit) ≡ handed-as (answered-place (now (self .entry)) tag (length (now (buffer .entry)))) (now (buffer .entry)) ⌝ }
+        ensures places { λ r. ⌜ places-of (now (self .exit)) ≡ rest-as (answered-place (now (self .entry)) tag (length (now (buffer .entry)))) tag (places-of (now (self .entry))) ⌝ }
+        ensures shape { λ r. ⌜ Same-front (now (self .entry)) (now (self .exit)) ⌝ }
+    {
+        let i = self.due(tag, buffer.len())?;
+        Ok(self.take_out(tag, i, buffer))
+    }
+
+    /// The place of a tag.
+    fn place(&self, tag: u32) -> Option<&Place>
+        ensures { λ r. ⌜ mapped now r ≡ place-of tag (places-of (now (self .entry))) ⌝ }
+    {
+        match self.table.find(tag) {
+            Some(i) => Some(&self.table.places[i]),
+            None => None,
+        }
     }
 
     /// How far the ticket of a tag has come.
     pub fn state(&self, tag: u32) -> State
         ensures { λ r. ⌜ r ≡ state-place (place-of tag (places-of (now (self .entry)))) ⌝ }
     {
-        match self.table.find(tag) {
+        match self.place(tag) {
             None => State::NotOpen,
-            Some(i) => {
-                if self.table.places[i].ready {
-                    State::Ready
-                } else {
-                    State::Waiting
-                }
-            }
+            Some(place) => place.state(),
         }
     }
 
@@ -114,9 +181,9 @@ impl Front {
     pub fn byte_count(&self, tag: u32) -> usize
         ensures { λ r. ⌜ r ≡ count-place (place-of tag (places-of (now (self .entry)))) ⌝ }
     {
-        match self.table.find(tag) {
+        match self.place(tag) {
             None => 0,
-            Some(i) => self.table.places[i].byte_count(),
+            Some(place) => place.byte_count(),
         }
     }
 }

@@ -3,11 +3,13 @@ ghost use mathlib.Core.Path.{_≡_};
 ghost use mathlib.Core.Bool.{cond};
 ghost use Prim.Native.Nat.{ℕ, _*_};
 ghost use Rattle.device.specs.Meaning.{is-read, sector-bytes};
+ghost use Rattle.device.specs.Questions.{state-by};
 ghost use lib.ListN.{take};
 ghost use Rattle.tickets.specs.Fresh.{fresh, run-bytes};
 use device::Kind;
 use device::Request;
 use device::SECTOR;
+use device::State;
 
 /// The bytes of the longest run.
 pub const MOST_BYTES: usize = 1024;
@@ -27,7 +29,7 @@ pub struct Place {
 
 impl Place {
     /// The place of a request that was just accepted, with the data that came with it, of which a run's bytes fit.
-    pub fn waiting(request: Request, kind: Kind, mask: u8, given: &[u8]) -> Place
+    pub(crate) fn waiting(request: Request, kind: Kind, mask: u8, given: &[u8]) -> Place
         ensures { λ r. ⌜ r ≡ fresh request kind mask (take run-bytes (now (given .entry))) ⌝ }
     {
         let mut bytes = [0; MOST_BYTES];
@@ -45,12 +47,23 @@ impl Place {
     }
 
     /// The bytes that the ticket's answer has: those of its run for a read, else none.
-    pub fn byte_count(&self) -> usize
+    pub(crate) fn byte_count(&self) -> usize
         ensures { λ r. ⌜ r ≡ cond (is-read (now (self .entry) .kind)) (now (self .entry) .count * sector-bytes) 0 ⌝ }
     {
         match self.kind {
             Kind::Read => self.count as usize * SECTOR,
             Kind::Write | Kind::Flush => 0,
+        }
+    }
+
+    /// How far the ticket has come.
+    pub(crate) fn state(&self) -> State
+        ensures { λ r. ⌜ r ≡ state-by (now (self .entry) .ready) ⌝ }
+    {
+        if self.ready {
+            State::Ready
+        } else {
+            State::Waiting
         }
     }
 }

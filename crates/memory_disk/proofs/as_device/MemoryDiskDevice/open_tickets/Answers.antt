@@ -9,4 +9,4 @@ returns c h =
     let f = c .args .self .now .front in
     let ps = places-of f in
     let row = c .args .self .now .bytes .now in
-    omega (arith, c .len .ensures, f .table .places .ok .0, over.length-over (bad-of (f .size) (f .named)) ps (shown (f .size) (f .named) row))
+    omega (arith, c .open-tickets .ensures, over.length-over (bad-of (f .size) (f .named)) ps (shown (f .size) (f .named) row))

@@ -6,7 +6,7 @@ use Rattle.std.proofs.shelf.Results.{err-from-errBy}
 use Rattle.history.specs.declared.call.Event.{Event}
 use Rattle.history.specs.Log.{Went, calls-of}
 use Rattle.history.proofs.LogFacts.{calls-on, cases-err, all-sent, some-sent, went-on}
-use Rattle.history.proofs.sends.send_all.Needs as need
+use Rattle.history.proofs.sends.send_each.Needs as need
 
 pub loop-call-holds : need.loop-call-holds
 loop-call-holds g c = (
@@ -14,8 +14,8 @@ loop-call-holds g c = (
   tt,
   λ k. (
     k,
-    subst (λ (h : List Event). Went (g .D·Device .meaning) (g .D·Device .does) (c .args .device .now) h (c .args .device .now)) (sym (c .new-log .ensures .items)) Went.stays,
-    ap (λ (h : List Event). calls-of h ++ c .into-iter-call-iterator .result .rest .items) (c .new-log .ensures .items),
+    subst (λ (h : List Event). Went (g .D·Device .meaning) (g .D·Device .does) (c .args .device .now) h (c .args .device .now)) (sym (c .pre)) Went.stays,
+    ap (λ (h : List Event). calls-of h ++ c .into-iter-call-iterator .result .rest .items) (c .pre),
   ),
 )
 

@@ -3,7 +3,7 @@ use mathlib.Core.List.{_++_}
 use Rattle.std.specs.Of.Vec.{vec-items}
 use Rattle.std.specs.Of.IntoIter.{into-iter-items}
 use Rattle.history.specs.Log.{Went, calls-of}
-use Rattle.history.proofs.sends.send_all.Given as given
+use Rattle.history.proofs.sends.send_each.Given as given
 
 -- the log is the history of the calls so far
 abbrev pub Inv-loop-call : given.InvT-loop-call
