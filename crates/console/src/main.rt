@@ -7,6 +7,8 @@ mod words;
 mod wrong;
 
 use device::SECTOR;
+use drive::Drive;
+use drive::DriveDevice;
 use memory_disk::MemoryDisk;
 use memory_disk::MemoryDiskDevice;
 use play::play;
@@ -36,6 +38,17 @@ fn on_memory(heap: Global, script: Script, out: &mut String) -> Result<(), AnyEr
     Ok(())
 }
 
+/// A drive of 512 zeroed sectors, sector 300 bad.
+fn on_drive(heap: Global, script: Script, out: &mut String) -> Result<(), AnyError> {
+    let Script { calls, lines, .. } = script;
+    let mut bytes = vec![in heap; 0u8; SECTORS * SECTOR]?;
+    let mut drive = Drive::new(heap, bytes.as_mut_slice(), BAD)?;
+    play(heap, &mut drive, calls, lines.as_slice(), out)?;
+    drop(drive);
+    show_medium(out, 0, bytes.as_slice())?;
+    Ok(())
+}
+
 fn run(rt: &LibcRuntime) -> Result<(), AnyError> {
     let heap = rt.alloc();
     let mut input = Vec::new(heap);
@@ -45,6 +58,7 @@ fn run(rt: &LibcRuntime) -> Result<(), AnyError> {
     let mut out = String::new(heap);
     match script.stack {
         Stack::Memory => on_memory(heap, script, &mut out)?,
+        Stack::Drive => on_drive(heap, script, &mut out)?,
     }
     rt.print(out)?;
     Ok(())

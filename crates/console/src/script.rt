@@ -10,6 +10,7 @@ use std::alloc::Global;
 #[derive(Clone, Copy)]
 pub(crate) enum Stack {
     Memory,
+    Drive,
 }
 
 /// What a line of the script gave: the next call of the list, or a complaint.
@@ -43,6 +44,7 @@ fn stack_of(words: &[&str]) -> Result<Stack, Wrong> {
     };
     match *name {
         "memory" => Ok(Stack::Memory),
+        "drive" => Ok(Stack::Drive),
         _ => Err(Wrong::StackName),
     }
 }

@@ -1,0 +1,7 @@
+mod Single
+mod Finding
+mod Keeping
+mod Laws
+mod Steps
+mod Turning
+mod Sparing

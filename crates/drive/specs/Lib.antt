@@ -1,0 +1,5 @@
+pub mod Buffer
+pub mod Service
+pub mod Means
+pub mod Turn
+pub mod SoundFacts
