@@ -3,51 +3,19 @@ mod command;
 mod play;
 mod script;
 mod show;
+mod stacks;
 mod words;
 mod wrong;
 
-use device::SECTOR;
-use drive::Drive;
-use drive::DriveDevice;
-use memory_disk::MemoryDisk;
-use memory_disk::MemoryDiskDevice;
-use play::play;
-use script::Script;
 use script::Stack;
 use script::read;
 use script::text_of;
-use show::show_medium;
-use std::alloc::Global;
+use stacks::on_drive;
+use stacks::on_memory;
+use stacks::on_mirror;
+use stacks::on_offset;
 use std::error::AnyError;
 use std::io::Read;
-
-/// The sectors of the console's disks.
-const SECTORS: usize = 512;
-
-/// The one bad sector; the other seven numbers name none.
-const BAD: [u32; 8] = [300, 65536, 65536, 65536, 65536, 65536, 65536, 65536];
-
-/// A memory disk of 512 zeroed sectors, sector 300 bad.
-fn on_memory(heap: Global, script: Script, out: &mut String) -> Result<(), AnyError> {
-    let Script { calls, lines, .. } = script;
-    let mut bytes = vec![in heap; 0u8; SECTORS * SECTOR]?;
-    let mut disk = MemoryDisk::new(heap, bytes.as_mut_slice(), BAD)?;
-    play(heap, &mut disk, calls, lines.as_slice(), out)?;
-    drop(disk);
-    show_medium(out, 0, bytes.as_slice())?;
-    Ok(())
-}
-
-/// A drive of 512 zeroed sectors, sector 300 bad.
-fn on_drive(heap: Global, script: Script, out: &mut String) -> Result<(), AnyError> {
-    let Script { calls, lines, .. } = script;
-    let mut bytes = vec![in heap; 0u8; SECTORS * SECTOR]?;
-    let mut drive = Drive::new(heap, bytes.as_mut_slice(), BAD)?;
-    play(heap, &mut drive, calls, lines.as_slice(), out)?;
-    drop(drive);
-    show_medium(out, 0, bytes.as_slice())?;
-    Ok(())
-}
 
 fn run(rt: &LibcRuntime) -> Result<(), AnyError> {
     let heap = rt.alloc();
@@ -59,6 +27,8 @@ fn run(rt: &LibcRuntime) -> Result<(), AnyError> {
     match script.stack {
         Stack::Memory => on_memory(heap, script, &mut out)?,
         Stack::Drive => on_drive(heap, script, &mut out)?,
+        Stack::Offset => on_offset(heap, script, &mut out)?,
+        Stack::Mirror => on_mirror(heap, script, &mut out)?,
     }
     rt.print(out)?;
     Ok(())

@@ -11,6 +11,8 @@ use std::alloc::Global;
 pub(crate) enum Stack {
     Memory,
     Drive,
+    Offset,
+    Mirror,
 }
 
 /// What a line of the script gave: the next call of the list, or a complaint.
@@ -45,6 +47,8 @@ fn stack_of(words: &[&str]) -> Result<Stack, Wrong> {
     match *name {
         "memory" => Ok(Stack::Memory),
         "drive" => Ok(Stack::Drive),
+        "offset" => Ok(Stack::Offset),
+        "mirror" => Ok(Stack::Mirror),
         _ => Err(Wrong::StackName),
     }
 }

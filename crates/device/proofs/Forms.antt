@@ -4,7 +4,7 @@ use mathlib.Core.Bool.{Bool, true, false, cond}
 use Prim.Native.Nat.{ℕ, _+_, _≤_}
 use native.Mathlib.Omega.{arith}
 use lib.Dec.{eqb, leb, ltb}
-use Rattle.std.proofs.shelf.Tests.{and-parts, leb-true, ltb-false, eqb-true}
+use Rattle.std.proofs.shelf.Tests.{and-parts, leb-true, ltb-false, eqb-true, eq-eqb, le-ltb, cond-true, cond-false}
 use Rattle.std.specs.declared.option.Option.{Option}
 use Rattle.std.specs.declared.option.Option.the-variants.{Some, None}
 use Rattle.std.specs.declared.result.Result.{Result}
@@ -62,3 +62,12 @@ kind-by (Some j) size q given k e =
 -- and it is of the kind that its number names
 pub form-kind : (size : ℕ) (q : Request) (given : ℕ) (k : Kind) → form size q given ≡ Ok k → kind-of (q .kind) ≡ Some k
 form-kind size q given k e = kind-by (kind-of (q .kind)) size q given k e
+
+-- a request of a known kind with a fair run inside the size and the bytes due has a form
+pub form-from : (size : ℕ) (q : Request) (given : ℕ) (k : Kind) → kind-of (q .kind) ≡ Some k → fair-count k (q .first) (q .count) ≡ true
+    → q .first + q .count ≤ size → given ≡ due-length k (q .count) → form size q given ≡ Ok k
+form-from size q given k e f le g =
+    ap (λ o. form-as o size q given) e
+    ∙ (cond-true (fair-count k (q .first) (q .count)) _ (Err causes.BadCount) f
+    ∙ (cond-false (ltb size (q .first + q .count)) (Err causes.PastEnd) _ (le-ltb size (q .first + q .count) le)
+    ∙ cond-true (eqb given (due-length k (q .count))) (Ok k) (Err causes.BadLength) (eq-eqb given (due-length k (q .count)) g)))

@@ -7,3 +7,4 @@ pub mod Questions
 pub mod Sound
 pub mod Told
 pub mod Fault
+pub mod Layers

@@ -2,6 +2,7 @@ mod device;
 mod fault;
 mod faults;
 mod form;
+mod height;
 mod interface;
 mod numbers;
 
@@ -15,6 +16,7 @@ pub use form::MOST_SECTORS;
 pub use form::MOST_TICKETS;
 pub use form::SECTOR;
 pub use form::examine;
+pub use height::layer_height;
 pub use interface::Cause;
 pub use interface::CauseDebug;
 pub use interface::CausePartialEq;

@@ -1,0 +1,3 @@
+mod dry;
+
+pub use dry::run_dry;

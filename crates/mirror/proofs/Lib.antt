@@ -1,0 +1,3 @@
+mod Masks
+mod MirrorCalls
+mod MirrorTurns
