@@ -1,10 +1,13 @@
 // What stacks of layers answer.
+ghost use mathlib.Core.List.{[]};
+ghost use Rattle.memory_disk.specs.Means.{set-up};
 use device::Device;
 use device::Home;
 use device::HomeDebug;
 use device::HomePartialEq;
 use device::Refusal;
 use device::Request;
+use device::State;
 use drive::Drive;
 use drive::DriveDevice;
 use memory_disk::MemoryDisk;
@@ -157,4 +160,78 @@ fn mirror_of_mirrors(rt: LibcRuntime) -> Result<(), Fail> {
     check(mask == 0 && byte == 3)?;
     let (mask, byte) = read(&mut stack, 0);
     check(mask == 0 && byte == 5)
+}
+
+// A stand-in that keeps nothing: it only stands as high as a device may.
+#[derive(Drop)]
+struct Tall {
+    height: u8,
+}
+
+impl Device for Tall as TallDevice {
+    ghost meaning = { λ _. set-up [] [] };
+
+    ghost kept = { λ _. ⊥ };
+
+    ghost sound = { λ d k. absurd k };
+
+    ghost does = { λ _ _ _. Unit {0} };
+
+    fn size(&self) -> u32 {
+        1
+    }
+
+    fn capacity(&self) -> u32 {
+        1
+    }
+
+    fn height(&self) -> u8 {
+        self.height
+    }
+
+    fn open_tickets(&self) -> u32 {
+        0
+    }
+
+    fn tag_at(&self, _i: u32) -> Option<u32> {
+        None
+    }
+
+    fn state(&self, _tag: u32) -> State {
+        State::NotOpen
+    }
+
+    fn byte_count(&self, _tag: u32) -> u32 {
+        0
+    }
+
+    fn home(&self, _sector: u32) -> Option<Home> {
+        None
+    }
+
+    fn submit(&mut self, _request: Request, _bytes: &[u8], _tick: u32) -> Result<(), Refusal> {
+        Ok(())
+    }
+
+    fn turn(&mut self, _tick: u32) -> u32 {
+        0
+    }
+
+    fn collect(&mut self, _tag: u32, _buffer: &mut [u8]) -> Result<u8, Refusal> {
+        Ok(0)
+    }
+}
+
+// No layer stands higher than 255.
+#[test]
+fn the_highest_layers() -> Result<(), Fail> {
+    check_eq(Offset::new(Tall { height: 253 }, 0, 1).height(), 254)?;
+    check_eq(
+        Offset::new(Offset::new(Tall { height: 254 }, 0, 1), 0, 1).height(),
+        255,
+    )?;
+    check_eq(
+        Mirror::new(Tall { height: 3 }, Tall { height: 255 }).height(),
+        255,
+    )
 }
