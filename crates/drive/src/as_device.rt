@@ -73,10 +73,7 @@ pub impl Device for Drive<'_> as DriveDevice {
     }
 
     fn submit(&mut self, request: Request, bytes: &[u8], _tick: u32) -> Result<(), Refusal> {
-        match self.works.submit(request, bytes) {
-            Ok(()) => Ok(()),
-            Err(cause) => Err(Refusal { cause, height: 0 }),
-        }
+        self.works.submit(request, bytes)
     }
 
     fn turn(&mut self, _tick: u32) -> u32 {
@@ -89,9 +86,6 @@ pub impl Device for Drive<'_> as DriveDevice {
     }
 
     fn collect(&mut self, tag: u32, buffer: &mut [u8]) -> Result<u8, Refusal> {
-        match self.works.collect(tag, buffer) {
-            Ok(mask) => Ok(mask),
-            Err(cause) => Err(Refusal { cause, height: 0 }),
-        }
+        self.works.collect(tag, buffer)
     }
 }

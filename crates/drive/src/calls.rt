@@ -13,7 +13,7 @@ ghost use Rattle.drive.specs.Turn.{turned-ticks, turned-places, turned-arm, tu
 use crate::buffer::BUFFERED;
 use crate::service::serve_oldest;
 use crate::works::Works;
-use device::Cause;
+use device::Refusal;
 use device::Request;
 use std::alloc::AllocError;
 use std::alloc::Global;
@@ -54,8 +54,8 @@ impl Works {
         serve_oldest(front, arm, entries, memory)
     }
 
-    /// Adds the ticket of a request, or names the first cause to refuse it.
-    pub(crate) fn submit(&mut self, request: Request, bytes: &[u8]) -> Result<(), Cause>
+    /// Adds the ticket of a request, or refuses it at height 0.
+    pub(crate) fn submit(&mut self, request: Request, bytes: &[u8]) -> Result<(), Refusal>
         ensures answers { λ r. ⌜ r ≡ answer-as (admission (now (self .entry) .front) request (length (now (bytes .entry)))) ⌝ }
         ensures places { λ r. ⌜ places-of (now (self .exit) .front) ≡ put-in (admission (now (self .entry) .front) request (length (now (bytes .entry)))) (places-of (now (self .entry) .front)) (now (self .entry) .front .named) request (now (bytes .entry)) ⌝ }
         ensures shape { λ r. ⌜ Same-front (now (self .entry) .front) (now (self .exit) .front) ⌝ }
@@ -65,8 +65,8 @@ impl Works {
         self.front.submit(request, bytes)
     }
 
-    /// Takes a ready ticket out and hands its answer over, or names the first cause to refuse.
-    pub(crate) fn collect(&mut self, tag: u32, buffer: &mut [u8]) -> Result<u8, Cause>
+    /// Takes a ready ticket out and hands its answer over, or refuses at height 0.
+    pub(crate) fn collect(&mut self, tag: u32, buffer: &mut [u8]) -> Result<u8, Refusal>
         ensures answers { λ r. ⌜ r ≡ mask-as (answered-place (now (self .entry) .front) tag (length (now (buffer .entry)))) ⌝ }
         ensures hands { λ r. ⌜ now (buffer .exit) ≡ handed-as (answered-place (now (self .entry) .front) tag (length (now (buffer .entry)))) (now (buffer .entry)) ⌝ }
         ensures places { λ r. ⌜ places-of (now (self .exit) .front) ≡ rest-as (answered-place (now (self .entry) .front) tag (length (now (buffer .entry)))) tag (places-of (now (self .entry) .front)) ⌝ }

@@ -82,10 +82,7 @@ pub impl Device for MemoryDisk<'_> as MemoryDiskDevice {
     }
 
     fn submit(&mut self, request: Request, bytes: &[u8], _tick: u32) -> Result<(), Refusal> {
-        match self.front.submit(request, bytes) {
-            Ok(()) => Ok(()),
-            Err(cause) => Err(Refusal { cause, height: 0 }),
-        }
+        self.front.submit(request, bytes)
     }
 
     fn turn(&mut self, _tick: u32) -> u32 {
@@ -98,9 +95,6 @@ pub impl Device for MemoryDisk<'_> as MemoryDiskDevice {
     }
 
     fn collect(&mut self, tag: u32, buffer: &mut [u8]) -> Result<u8, Refusal> {
-        match self.front.collect(tag, buffer) {
-            Ok(mask) => Ok(mask),
-            Err(cause) => Err(Refusal { cause, height: 0 }),
-        }
+        self.front.collect(tag, buffer)
     }
 }

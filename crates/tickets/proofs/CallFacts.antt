@@ -290,19 +290,12 @@ module _ (size most : ℕ) (named : List ℕ) (ps : List Place) (base medium : C
       leaves-by q d (admitted-to size most ps q (length d)) (λ k e. admitted-form most (form size q (length d)) ps (q .tag) k e)
       ∙ ap (λ a. submitted-as a device q d) (sym (admitted-same size most named ps base medium (form size q (length d)) (q .tag)))
 
-  answers-ok-by : (a : Result Kind Cause) → Ok tt ≡ answer-as a → Ok tt ≡ submit-answer-as a device
-  answers-ok-by (Ok k) e = refl
-  answers-ok-by (Err c) e = never _ (Unit {0}) c tt (sym e)
+  answers-by : (a : Result Kind Cause) → answer-as a ≡ submit-answer-as a device
+  answers-by (Ok k) = refl
+  answers-by (Err c) = refl
 
-  answers-err-by : (a : Result Kind Cause) (c : Cause) → Err c ≡ answer-as a → _≡_ {A = Result (Unit {0}) Refusal} (Err (refused-by device c)) (submit-answer-as a device)
-  answers-err-by (Ok k) c e = never _ (Unit {0}) c tt e
-  answers-err-by (Err b) c e = let s : c ≡ b = cc in ap (λ x. Err (refused-by device x)) s
-
-  pub submit-ok : (q : Request) (n : ℕ) → Ok tt ≡ answer-as (admitted-to size most ps q n) → Ok tt ≡ submit-answer device q n
-  submit-ok q n e = answers-ok-by (admitted-to size most ps q n) e ∙ ap (λ a. submit-answer-as a device) (sym (admitted-same size most named ps base medium (form size q n) (q .tag)))
-
-  pub submit-err : (q : Request) (n : ℕ) (c : Cause) → Err c ≡ answer-as (admitted-to size most ps q n) → _≡_ {A = Result (Unit {0}) Refusal} (Err (refused-by device c)) (submit-answer device q n)
-  submit-err q n c e = answers-err-by (admitted-to size most ps q n) c e ∙ ap (λ a. submit-answer-as a device) (sym (admitted-same size most named ps base medium (form size q n) (q .tag)))
+  pub submit-answers : (q : Request) (n : ℕ) → answer-as (admitted-to size most ps q n) ≡ submit-answer device q n
+  submit-answers q n = answers-by (admitted-to size most ps q n) ∙ ap (λ a. submit-answer-as a device) (sym (admitted-same size most named ps base medium (form size q n) (q .tag)))
 
   -- turn
 
@@ -413,15 +406,13 @@ module _ (size most : ℕ) (named : List ℕ) (ps : List Place) (base medium : C
       asked = due device t (length buffer)
 
       pub record Collects : Type 0 where
-        pub ok : (m : ℕ) → Ok m ≡ mask-as got → Ok m ≡ collect-answer device t (length buffer)
-        pub err : (c : Cause) → Err c ≡ mask-as got → _≡_ {A = Result ℕ Refusal} (Err (refused-by device c)) (collect-answer device t (length buffer))
+        pub answers : mask-as got ≡ collect-answer device t (length buffer)
         pub hands : handed-as got buffer ≡ buffer-after device t buffer
         pub leaves : meant-over size most named (rest-as got t ps) base medium ≡ collected device t (length buffer)
 
       refusing : (c : Cause) → got ≡ Err c → asked ≡ Err c → Collects
       refusing c g a = record {
-        ok = λ m e. never _ ℕ c m (sym (e ∙ ap mask-as g));
-        err = λ x e. let s : Err x ≡ mask-as (Err c) = e ∙ ap mask-as g in let i : x ≡ c = cc in ap (λ z. Err (refused-by device z)) i ∙ sym (ap (λ z. collect-answer-as z device) a);
+        answers = ap mask-as g ∙ sym (ap (λ z. collect-answer-as z device) a);
         hands = ap (λ z. handed-as z buffer) g ∙ sym (ap (λ z. buffer-as z buffer) a);
         leaves = ap (λ z. meant-over size most named (rest-as z t ps) base medium) g ∙ sym (ap (λ z. collected-as z device t) a);
       }
@@ -433,8 +424,7 @@ module _ (size most : ℕ) (named : List ℕ) (ps : List Place) (base medium : C
           let o : owed b p ≡ take (byte-room p) (p .bytes) = owed-ready size (names named) bad p b r in
           let n : length (owed b p) ≡ byte-room p = length-owed size (names named) bad p b f w in
           record {
-            ok = λ m e. let s : Ok m ≡ mask-as (Ok p) = e ∙ ap mask-as g in let i : m ≡ p .mask = cc in ap Ok i ∙ sym (ap (λ z. collect-answer-as z device) a);
-            err = λ x e. never _ ℕ x (p .mask) (e ∙ ap mask-as g);
+            answers = ap mask-as g ∙ sym (ap (λ z. collect-answer-as z device) a);
             hands = ap (λ z. handed-as z buffer) g
                 ∙ (ap (λ z. z ++ drop (byte-room p) buffer) (sym o) ∙ (ap (λ z. owed b p ++ drop z buffer) (sym n) ∙ sym (ap (λ z. buffer-as z buffer) a)));
             leaves = ap (λ z. meant-over size most named (rest-as z t ps) base medium) g

@@ -6,8 +6,8 @@ use Prim.Native.Nat.{ℕ, _+_, _-_, _*_, _≤_, _<_, min}
 use native.Mathlib.Omega.{arith}
 use native.Mathlib.Nat.{min-eq-left}
 use lib.Dec.{eqb, leb, ltb}
-use lib.ListN.{length, take, drop, replicate, getD}
-use Rattle.std.proofs.shelf.Lists.{length-append, length-drop, length-replicate, take-all}
+use lib.ListN.{length, take, drop, replicate, getD, set}
+use Rattle.std.proofs.shelf.Lists.{length-append, length-drop, length-replicate, length-set, take-all}
 use Rattle.std.proofs.shelf.Tests.{and-parts, and-from, leb-true, le-leb, eqb-true, eq-eqb, cond-true, cond-false, lt-ltb, le-ltb, ltb-false}
 use Rattle.std.specs.Options.{isSome}
 use Rattle.std.specs.declared.option.Option.{Option}
@@ -24,9 +24,13 @@ use Rattle.device.specs.Submit.{fair-count, form}
 use Rattle.device.proofs.Forms.{form-ok, fair-short, due-short}
 use Rattle.tickets.specs.declared.place.Place.{Place}
 use Rattle.tickets.specs.Fresh.{fresh}
-use Rattle.tickets.specs.Meant.{well, place-of, has-tag}
+use Rattle.sectors.specs.Memory.{names}
+use Rattle.tickets.specs.declared.front.Front.{Front}
+use Rattle.tickets.specs.Meant.{well, all-well, place-of, has-tag, apart, in-turn}
+use Rattle.tickets.specs.Open.{places-of}
+use Rattle.tickets.proofs.Keeps.{apart-set, well-at, well-set, in-turn-serve}
 use Rattle.tickets.specs.Places.{index-of, first-waiting}
-use Rattle.tickets.proofs.Stands.{Stands, Oldest, stands, oldest, absent-place, absent-has, stands-place}
+use Rattle.tickets.proofs.Stands.{Stands, Oldest, stands, oldest, oldest-within, absent-place, absent-has, stands-place}
 use Rattle.tickets.specs.Front.{filled, served, byte-room, due-place, entry-as, admitted-as}
 use Rattle.sectors.proofs.Runs.{length-bytes}
 
@@ -165,3 +169,23 @@ room-by-test false l p q room h e = never _ causes.Waits q e
 pub due-room : (o : Option Place) (room : ℕ) (q : Place) → due-place o room ≡ Ok q → byte-room q ≤ room
 due-room None room q e = never _ causes.NotOpen q e
 due-room (Some p) room q e = room-by-test (p .ready) (ltb room (byte-room p)) p q room refl e
+
+-- what a front's places keep to once the oldest waiting one is served
+pub record Kept-places (size most : ℕ) (bad : ℕ → Bool) (ps : List Place) : Type 0 where
+  pub within : length ps ≤ most
+  pub apart : apart ps ≡ true
+  pub well : all-well size bad ps ≡ true
+  pub turns : in-turn ps ≡ true
+
+pub serve-keeps : (f : Front) (sight : Contents) (i : ℕ) (p q : Place) → ((s : ℕ) → s < f .size → length (sight s) ≡ 128)
+    → Oldest (places-of f) i → p ≡ getD (places-of f) i p → q ≡ served sight p → Kept-places (f .size) (f .capacity) (names (f .named)) (set (places-of f) i q)
+serve-keeps f sight i p q h old is made =
+    let ps = places-of f in
+    let bad = names (f .named) in
+    let fit = fits-from (f .size) bad p (ap (well (f .size) bad) is ∙ well-at (f .size) bad ps i p (f .well) (oldest-within old)) in
+    record {
+      within = (let n = length-set ps i q in let w = f .within in omega (arith, n, w));
+      apart = apart-set ps i q p (sym (ap (λ x. x .tag) is) ∙ sym (ap (λ x. x .tag) made)) ∙ f .apart;
+      well = well-set (f .size) bad ps i q (f .well) (ap (well (f .size) bad) made ∙ served-well (f .size) bad sight p fit h);
+      turns = in-turn-serve old q (f .turns) (ap (λ x. x .ready) made);
+    }

@@ -15,6 +15,7 @@ use Rattle.device.specs.declared.interface.Cause.the-variants as causes
 use Rattle.device.specs.declared.interface.State.{State}
 use Rattle.device.specs.declared.interface.State.the-variants as states
 use Rattle.device.specs.declared.interface.Request.{Request}
+use Rattle.device.specs.declared.interface.Refusal.{Refusal}
 use Rattle.device.specs.Questions.{state-by}
 use Rattle.device.specs.Submit.{form}
 use Rattle.device.specs.Meaning.{Contents, bytes-of, mask-of, is-read, sector-bytes}
@@ -40,9 +41,14 @@ admitted-as most (Ok k) ps t = entry-as most (index-of t ps) (length ps) k
 abbrev pub admitted-to : ℕ → ℕ → List Place → Request → ℕ → Result Kind Cause
 admitted-to size most ps q given = admitted-as most (form size q given) ps (q .tag)
 
-abbrev pub answer-as : Result Kind Cause → Result (Unit {0}) Cause
+-- a refusal by a bottom device
+abbrev pub at-bottom : Cause → Refusal
+at-bottom c = record { cause = c; height = 0 }
+
+-- what a submit answers
+abbrev pub answer-as : Result Kind Cause → Result (Unit {0}) Refusal
 answer-as (Ok k) = Ok tt
-answer-as (Err c) = Err c
+answer-as (Err c) = Err (at-bottom c)
 
 -- the places after a submit
 abbrev pub put-in : Result Kind Cause → List Place → List ℕ → Request → List ℕ → List Place
@@ -73,9 +79,10 @@ abbrev pub due-place : Option Place → ℕ → Result Place Cause
 due-place None room = Err causes.NotOpen
 due-place (Some p) room = cond (p .ready) (cond (ltb room (byte-room p)) (Err causes.ShortBuffer) (Ok p)) (Err causes.Waits)
 
-abbrev pub mask-as : Result Place Cause → Result ℕ Cause
+-- what a collect answers
+abbrev pub mask-as : Result Place Cause → Result ℕ Refusal
 mask-as (Ok p) = Ok (p .mask)
-mask-as (Err c) = Err c
+mask-as (Err c) = Err (at-bottom c)
 
 -- the buffer and the places after a collect
 abbrev pub handed-as : Result Place Cause → List ℕ → List ℕ

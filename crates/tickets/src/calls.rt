@@ -9,7 +9,7 @@ ghost use Rattle.std.specs.Vec.{made};
 ghost use Rattle.std.specs.declared.result.Result.the-variants.{Ok};
 ghost use Rattle.tickets.specs.Fresh.{run-bytes};
 ghost use Rattle.tickets.specs.Meant.{place-of, less};
-ghost use Rattle.tickets.specs.Front.{answer-as, put-in, mask-as, handed-as, rest-as, state-place, count-place};
+ghost use Rattle.tickets.specs.Front.{at-bottom, answer-as, put-in, mask-as, handed-as, rest-as, state-place, count-place};
 ghost use Rattle.tickets.specs.Places.{tag-of, first-waiting};
 ghost use Rattle.tickets.specs.Open.{places-of, place-at, admission, answered-place, Due, Same-front};
 use crate::front::Front;
@@ -19,12 +19,20 @@ use device::Cause;
 use device::Kind;
 use device::MOST_SECTORS;
 use device::MOST_TICKETS;
+use device::Refusal;
 use device::Request;
 use device::State;
 use device::examine;
 use sectors::mask;
 use std::alloc::AllocError;
 use std::alloc::Global;
+
+/// A refusal by a bottom device.
+fn at_bottom(cause: Cause) -> Refusal
+    ensures { λ r. ⌜ r ≡ at-bottom cause ⌝ }
+{
+    Refusal { cause, height: 0 }
+}
 
 /// Copies the first bytes of a place to the front of a buffer.
 fn hand(place: &Place, n: usize, buffer: &mut [u8])
@@ -102,15 +110,19 @@ impl Front {
         self.table.places.push_reserved(place);
     }
 
-    /// Adds the ticket of a request, or names the first cause to refuse it.
-    pub fn submit(&mut self, request: Request, bytes: &[u8]) -> Result<(), Cause>
+    /// Adds the ticket of a request, or refuses it at height 0.
+    pub fn submit(&mut self, request: Request, bytes: &[u8]) -> Result<(), Refusal>
         ensures answers { λ r. ⌜ r ≡ answer-as (admission (now (self .entry)) request (length (now (bytes .entry)))) ⌝ }
         ensures places { λ r. ⌜ places-of (now (self .exit)) ≡ put-in (admission (now (self .entry)) request (length (now (bytes .entry)))) (places-of (now (self .entry))) (now (self .entry) .named) request (now (bytes .entry)) ⌝ }
         ensures shape { λ r. ⌜ Same-front (now (self .entry)) (now (self .exit)) ⌝ }
     {
-        let kind = self.admit(request, bytes.len())?;
-        self.add(request, kind, bytes);
-        Ok(())
+        match self.admit(request, bytes.len()) {
+            Err(cause) => Err(at_bottom(cause)),
+            Ok(kind) => {
+                self.add(request, kind, bytes);
+                Ok(())
+            }
+        }
     }
 
     /// Where the ticket stands that a collect into so much room answers, or the first cause to refuse it.
@@ -146,15 +158,17 @@ impl Front {
         done.mask
     }
 
-    /// Takes a ready ticket out and hands its answer over, or names the first cause to refuse.
-    pub fn collect(&mut self, tag: u32, buffer: &mut [u8]) -> Result<u8, Cause>
+    /// Takes a ready ticket out and hands its answer over, or refuses at height 0.
+    pub fn collect(&mut self, tag: u32, buffer: &mut [u8]) -> Result<u8, Refusal>
         ensures answers { λ r. ⌜ r ≡ mask-as (answered-place (now (self .entry)) tag (length (now (buffer .entry)))) ⌝ }
         ensures hands { λ r. ⌜ now (buffer .exit) ≡ handed-as (answered-place (now (self .entry)) tag (length (now (buffer .entry)))) (now (buffer .entry)) ⌝ }
         ensures places { λ r. ⌜ places-of (now (self .exit)) ≡ rest-as (answered-place (now (self .entry)) tag (length (now (buffer .entry)))) tag (places-of (now (self .entry))) ⌝ }
         ensures shape { λ r. ⌜ Same-front (now (self .entry)) (now (self .exit)) ⌝ }
     {
-        let i = self.due(tag, buffer.len())?;
-        Ok(self.take_out(tag, i, buffer))
+        match self.due(tag, buffer.len()) {
+            Err(cause) => Err(at_bottom(cause)),
+            Ok(i) => Ok(self.take_out(tag, i, buffer)),
+        }
     }
 
     /// The place of a tag.

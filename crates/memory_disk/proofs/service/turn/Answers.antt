@@ -4,16 +4,16 @@ use native.Mathlib.Omega.{arith}
 use lib.ListN.{getD, set}
 use Rattle.std.specs.Of.Vec.{vec-items}
 use Rattle.tickets.specs.Open.{places-of}
-use Rattle.tickets.specs.Meant.{well, apart}
+use Rattle.tickets.specs.Meant.{well}
 use Rattle.tickets.proofs.Stands.{oldest-within}
-use Rattle.tickets.proofs.Keeps.{apart-set, well-at, well-set, in-turn-serve}
+use Rattle.tickets.proofs.Keeps.{well-at}
 use Rattle.sectors.specs.Memory.{names, seen}
 use Rattle.tickets.specs.Front.{blank, served, places-as}
 use Rattle.memory_disk.specs.Stored.{stored}
 use Rattle.memory_disk.specs.Turn.{ticks-as, bytes-as}
 use Rattle.sectors.proofs.Runs.{length-seen}
-use Rattle.tickets.proofs.FrontFacts.{at-oldest, fits-from, served-well}
-use Rattle.std.proofs.shelf.Lists.{length-set, getD-default}
+use Rattle.tickets.proofs.FrontFacts.{at-oldest, fits-from, serve-keeps}
+use Rattle.std.proofs.shelf.Lists.{getD-default}
 use Rattle.memory_disk.proofs.service.turn.Needs as need
 
 pub index-mut-requires : need.index-mut-requires
@@ -33,32 +33,10 @@ serve-requires c κs =
 pub ghost-front : need.ghost-front
 ghost-front c =
     let s = c .args .front .now in
-    let ps = places-of s in
-    let i = c .in-Some .i in
-    let p = c .index-mut .result .now in
-    let q = c .serve .last .place in
-    let old = at-oldest i ps (c .oldest-waiting .result) (c .oldest-waiting .ensures) (c .in-Some .is) in
-    let is : p ≡ getD ps i p = c .index-mut .ensures .value in
-    let f = fits-from (s .size) (names (s .named)) p (ap (well (s .size) (names (s .named))) is ∙ well-at (s .size) (names (s .named)) ps i p (s .well) (oldest-within old)) in
-    let made : q ≡ served (seen (s .named) (c .args .memory .now)) p = c .serve .ensures .readies in (
-      s .small,
-      (
-        s .most,
-        (
-          s .room,
-          (
-            omega (arith, length-set ps i q, s .within),
-            (
-              apart-set ps i q p (sym (ap (λ x. x .tag) is) ∙ sym (ap (λ x. x .tag) made)) ∙ s .apart,
-              (
-                well-set (s .size) (names (s .named)) ps i q (s .well) (ap (well (s .size) (names (s .named))) made ∙ served-well (s .size) (names (s .named)) (seen (s .named) (c .args .memory .now)) p f (λ x lt. length-seen (s .named) (c .args .memory .now) x (omega (arith, c .pre)))),
-                (in-turn-serve old q (s .turns) (ap (λ x. x .ready) made), tt),
-              ),
-            ),
-          ),
-        ),
-      ),
-    )
+    let sight = seen (s .named) (c .args .memory .now) in
+    let old = at-oldest (c .in-Some .i) (places-of s) (c .oldest-waiting .result) (c .oldest-waiting .ensures) (c .in-Some .is) in
+    let k = serve-keeps s sight (c .in-Some .i) (c .index-mut .result .now) (c .serve .last .place) (λ x lt. length-seen (s .named) (c .args .memory .now) x (omega (arith, c .pre))) old (c .index-mut .ensures .value) (c .serve .ensures .readies) in
+    (s .small, (s .most, (s .room, (k .within, (k .apart, (k .well, (k .turns, tt)))))))
 
 pub returns : need.returns
 returns c =
