@@ -5,7 +5,7 @@ ghost use Rattle.std.specs.Vec.{made};
 ghost use Rattle.device.specs.Collect.{due};
 ghost use Rattle.device.specs.Layers.{layer-height};
 ghost use Rattle.device.specs.Submit.{admitted, tag-is-open};
-ghost use Rattle.mirror.specs.Means.{mirrored, Level, room-due, set-up};
+ghost use Rattle.mirror.specs.Means.{mirrored, Level, room-due, shut-both, set-up};
 use device::Cause;
 use device::Device;
 use device::Kind;
@@ -23,19 +23,28 @@ pub struct Mirror<L, R> {
     pub(crate) closed: bool,
 }
 
+/// Whether a mirror of the sides only asks questions: one of them has open tickets, or no room for any.
+fn closed_over<L: Device, R: Device>(left: &L, right: &R) -> bool
+    ensures shut { λ r. ⌜ (L·Device .kept (now (left .entry)) → R·Device .kept (now (right .entry)) → r ≡ shut-both (L·Device .meaning (now (left .entry))) (R·Device .meaning (now (right .entry)))) ⌝ }
+    ensures level { λ r. ⌜ (L·Device .kept (now (left .entry)) → R·Device .kept (now (right .entry)) → Level r (L·Device .meaning (now (left .entry))) (R·Device .meaning (now (right .entry)))) ⌝ }
+{
+    let first = 0 < left.open_tickets();
+    let second = 0 < right.open_tickets();
+    let none = left.capacity().min(right.capacity()) == 0;
+    first | second | none
+}
+
 impl<L: Device, R: Device> Mirror<L, R> {
     /// A mirror over two sides; over a side that has open tickets, or no room for any, it only asks questions.
     pub fn new(left: L, right: R) -> Mirror<L, R>
         ensures keeps { λ r. ⌜ (L·Device .kept left → R·Device .kept right → L·Device .kept (r .left) × R·Device .kept (r .right) × Level (r .closed) (L·Device .meaning (r .left)) (R·Device .meaning (r .right))) ⌝ }
         ensures means { λ r. ⌜ (L·Device .kept left → R·Device .kept right → mirrored (r .closed) (L·Device .meaning (r .left)) (R·Device .meaning (r .right)) ≡ set-up (L·Device .meaning left) (R·Device .meaning right)) ⌝ }
     {
-        let first = 0 < left.open_tickets();
-        let second = 0 < right.open_tickets();
-        let none = left.capacity().min(right.capacity()) == 0;
+        let closed = closed_over(&left, &right);
         Mirror {
             left,
             right,
-            closed: first | second | none,
+            closed,
         }
     }
 

@@ -2,7 +2,7 @@
 ghost use mathlib.Core.Path.{_≡_};
 ghost use Prim.Native.Nat.{ℕ};
 ghost use Rattle.device.specs.Layers.{layer-height};
-ghost use Rattle.offset.specs.Means.{room, over, set-up, Within};
+ghost use Rattle.offset.specs.Means.{room, over, shut-over, set-up, Within};
 use device::Cause;
 use device::Device;
 use device::Refusal;
@@ -17,19 +17,28 @@ pub struct Offset<D> {
     pub(crate) closed: bool,
 }
 
+/// Whether an offset over the device only asks questions: it has open tickets, or no room for any.
+fn closed_over<D: Device>(lower: &D) -> bool
+    ensures shut { λ r. ⌜ (kept (now (lower .entry)) → r ≡ shut-over (meaning (now (lower .entry)))) ⌝ }
+    ensures within { λ r. ⌜ (kept (now (lower .entry)) → (base most : ℕ) → Within base most r (meaning (now (lower .entry)))) ⌝ }
+{
+    let full = 0 < lower.open_tickets();
+    let none = lower.capacity() == 0;
+    full | none
+}
+
 impl<D: Device> Offset<D> {
     /// An offset over a device; over one that has open tickets, or no room for any, it only asks questions.
     pub fn new(lower: D, base: u32, most: u32) -> Offset<D>
         ensures keeps { λ r. ⌜ (kept lower → kept (r .lower) × Within (r .base) (r .most) (r .closed) (meaning (r .lower))) ⌝ }
         ensures means { λ r. ⌜ (kept lower → over (r .base) (r .most) (r .closed) (meaning (r .lower)) ≡ set-up base most (meaning lower)) ⌝ }
     {
-        let full = 0 < lower.open_tickets();
-        let none = lower.capacity() == 0;
+        let closed = closed_over(&lower);
         Offset {
             lower,
             base,
             most,
-            closed: full | none,
+            closed,
         }
     }
 
