@@ -18,6 +18,10 @@ sector-bytes = 128
 abbrev pub longest-run : ℕ
 longest-run = 8
 
+-- the bytes of the longest run
+abbrev pub run-bytes : ℕ
+run-bytes = longest-run * sector-bytes
+
 -- the bytes of each sector
 abbrev pub Contents : Type 0
 Contents = ℕ → List ℕ

@@ -12,6 +12,9 @@ pub const SECTOR: usize = 128;
 /// The most sectors that one request covers.
 pub const LONGEST_RUN: u32 = 8;
 
+/// The bytes of the longest run.
+pub const RUN_BYTES: usize = LONGEST_RUN as usize * SECTOR;
+
 /// The most sectors that a device has.
 pub const MOST_SECTORS: usize = 65536;
 

@@ -14,6 +14,7 @@ pub use faults::fault_at;
 pub use form::LONGEST_RUN;
 pub use form::MOST_SECTORS;
 pub use form::MOST_TICKETS;
+pub use form::RUN_BYTES;
 pub use form::SECTOR;
 pub use form::examine;
 pub use height::layer_height;

@@ -9,14 +9,12 @@ use crate::mix::patch;
 use device::Device;
 use device::Home;
 use device::LONGEST_RUN;
+use device::RUN_BYTES;
 use device::Refusal;
 use device::Request;
 use device::SECTOR;
 use device::State;
 use dry::run_dry;
-
-/// The bytes of the longest run.
-const LONGEST: usize = 1024;
 
 pub impl<L: Device, R: Device> Device for Mirror<L, R> as MirrorDevice {
     ghost meaning = { λ d. mirrored (d .closed) (L·Device .meaning (d .left)) (R·Device .meaning (d .right)) };
@@ -111,7 +109,7 @@ pub impl<L: Device, R: Device> Device for Mirror<L, R> as MirrorDevice {
         match self.bytes_due(tag, buffer.len()) {
             Err(cause) => Err(self.refused(cause)),
             Ok(n) => {
-                let mut other = [0u8; LONGEST];
+                let mut other = [0u8; RUN_BYTES];
                 // Neither side refuses what the mirror has ready.
                 let first = mask_in(self.left.collect(tag, buffer));
                 let second = mask_in(self.right.collect(tag, &mut other));

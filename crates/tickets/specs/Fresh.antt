@@ -1,16 +1,12 @@
 -- The place of a request that was just accepted.
 use mathlib.Core.List.{List, _++_}
 use mathlib.Core.Bool.{false}
-use Prim.Native.Nat.{ℕ, _*_}
+use Prim.Native.Nat.{ℕ}
 use lib.ListN.{length, replicate, drop}
 use Rattle.device.specs.declared.interface.Kind.{Kind}
 use Rattle.device.specs.declared.interface.Request.{Request}
-use Rattle.device.specs.Meaning.{longest-run, sector-bytes}
+use Rattle.device.specs.Meaning.{run-bytes}
 use Rattle.tickets.specs.declared.place.Place.{Place}
-
--- the bytes of the longest run
-abbrev pub run-bytes : ℕ
-run-bytes = longest-run * sector-bytes
 
 -- the place of a waiting ticket with the bytes given
 abbrev pub placed : Request → Kind → ℕ → List ℕ → Place

@@ -9,10 +9,9 @@ use Rattle.std.specs.declared.option.Option.{Option}
 use Rattle.std.specs.declared.option.Option.the-variants.{Some, None}
 use Rattle.device.specs.declared.interface.Kind.{Kind}
 use Rattle.device.specs.declared.interface.Kind.the-variants.{Read, Write, Flush}
-use Rattle.device.specs.Meaning.{Contents, Ticket, is-write, written, bytes-of, mask-of, sector-bytes}
+use Rattle.device.specs.Meaning.{Contents, Ticket, is-write, written, bytes-of, mask-of, sector-bytes, run-bytes}
 use Rattle.device.specs.Submit.{fair-count}
 use Rattle.tickets.specs.declared.place.Place.{Place}
-use Rattle.tickets.specs.Fresh.{run-bytes}
 
 -- the bytes of the place's run
 abbrev pub held : Place → List ℕ

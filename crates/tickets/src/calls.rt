@@ -7,7 +7,7 @@ ghost use Rattle.device.specs.Sound.{most-sectors, most-tickets};
 ghost use Rattle.std.specs.Options.{mapped};
 ghost use Rattle.std.specs.Vec.{made};
 ghost use Rattle.std.specs.declared.result.Result.the-variants.{Ok};
-ghost use Rattle.tickets.specs.Fresh.{run-bytes};
+ghost use Rattle.device.specs.Meaning.{run-bytes};
 ghost use Rattle.tickets.specs.Meant.{place-of, less};
 ghost use Rattle.tickets.specs.Front.{at-bottom, answer-as, put-in, mask-as, handed-as, rest-as, state-place, count-place};
 ghost use Rattle.tickets.specs.Places.{tag-of, first-waiting};

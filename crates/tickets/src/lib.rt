@@ -4,6 +4,5 @@ mod place;
 mod table;
 
 pub use front::Front;
-pub use place::MOST_BYTES;
 pub use place::Place;
 pub use table::Table;

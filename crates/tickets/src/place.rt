@@ -2,17 +2,15 @@
 ghost use mathlib.Core.Path.{_≡_};
 ghost use mathlib.Core.Bool.{cond};
 ghost use Prim.Native.Nat.{ℕ, _*_};
-ghost use Rattle.device.specs.Meaning.{is-read, sector-bytes};
+ghost use Rattle.device.specs.Meaning.{is-read, sector-bytes, run-bytes};
 ghost use Rattle.device.specs.Questions.{state-by};
 ghost use lib.ListN.{take};
-ghost use Rattle.tickets.specs.Fresh.{fresh, run-bytes};
+ghost use Rattle.tickets.specs.Fresh.{fresh};
 use device::Kind;
+use device::RUN_BYTES;
 use device::Request;
 use device::SECTOR;
 use device::State;
-
-/// The bytes of the longest run.
-pub const MOST_BYTES: usize = 1024;
 
 /// An open ticket: what was asked, the mask that is due, and room for the bytes of its run,
 /// which are a write's data and, once it is ready, what a read shows.
@@ -24,7 +22,7 @@ pub struct Place {
     pub count: u32,
     pub mask: u8,
     pub ready: bool,
-    pub bytes: [u8; MOST_BYTES],
+    pub bytes: [u8; RUN_BYTES],
 }
 
 impl Place {
@@ -32,8 +30,8 @@ impl Place {
     pub(crate) fn waiting(request: Request, kind: Kind, mask: u8, given: &[u8]) -> Place
         ensures { λ r. ⌜ r ≡ fresh request kind mask (take run-bytes (now (given .entry))) ⌝ }
     {
-        let mut bytes = [0; MOST_BYTES];
-        let n = given.len().min(MOST_BYTES);
+        let mut bytes = [0; RUN_BYTES];
+        let n = given.len().min(RUN_BYTES);
         bytes[0..n].copy_from_slice(&given[0..n]);
         Place {
             tag: request.tag,
