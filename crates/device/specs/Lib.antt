@@ -8,3 +8,4 @@ pub mod Sound
 pub mod Told
 pub mod Fault
 pub mod Layers
+pub mod Lookup

@@ -5,7 +5,7 @@ use Prim.Native.Nat.{ℕ, zero, suc, _+_, _*_}
 use lib.Dec.{eqb, leb}
 use lib.ListN.{length}
 use Rattle.std.specs.declared.option.Option.{Option}
-use Rattle.std.specs.declared.option.Option.the-variants.{Some, None}
+use Rattle.device.specs.Lookup.{index-by}
 use Rattle.device.specs.Meaning.{Contents, part, sector-bytes}
 use Rattle.sectors.specs.Memory.{listed, put-sector}
 use Rattle.drive.specs.declared.buffer.Entry.{Entry}
@@ -17,13 +17,13 @@ buffer-size = 8
 abbrev pub entry : ℕ → List ℕ → Entry
 entry s x = record { sector = s; bytes = x }
 
--- where a sector stands, counted from n
-abbrev pub index-from : ℕ → ℕ → List Entry → Option ℕ
-index-from n s [] = None
-index-from n s (e ∷ es) = cond (eqb s (e .sector)) (Some n) (index-from (n + 1) s es)
+-- an entry goes by its sector
+abbrev pub by-sector : Entry → ℕ
+by-sector e = e .sector
 
+-- where a sector stands
 abbrev pub index-of : ℕ → List Entry → Option ℕ
-index-of s es = index-from 0 s es
+index-of s es = index-by by-sector 0 s es
 
 -- the sector is in the buffer
 abbrev pub stands-in : ℕ → List Entry → Bool

@@ -29,10 +29,12 @@ use Rattle.device.specs.Turns.{Turned, Same-shape, made-ready}
 use Rattle.device.specs.Sound.{Sound, Well-formed, Each}
 use Rattle.device.proofs.Forms.{form-ok}
 use Rattle.tickets.specs.declared.place.Place.{Place}
+use Rattle.tickets.specs.Places.{by-tag}
 use Rattle.tickets.specs.Fresh.{fresh}
 use Rattle.tickets.specs.Places.{index-of, first-waiting}
 use Rattle.tickets.specs.Meant.{held, after, owed-as, owed, ticket, tickets-over, disk-over, place-of, apart, well, all-well, in-turn, less}
-use Rattle.tickets.proofs.Stands.{Stands, Oldest, stands, oldest, stands-within, stands-place, stands-has, absent-has, absent-place}
+use Rattle.tickets.proofs.Stands.{Oldest, oldest, stands-place, stands-has, absent-has, absent-place}
+use Rattle.device.proofs.Lookup.{Stands, stands, stands-within}
 use Rattle.tickets.proofs.Keeps.{well-at, in-turn-serve}
 use Rattle.tickets.proofs.MeantFacts as over
 use Rattle.sectors.specs.Memory.{listed, names}
@@ -82,7 +84,7 @@ module _ (size : ℕ) (bad′ : ℕ → Bool) where
     disk-whole (p ∷ ps) base h w = let a = all-parts p ps h in disk-whole ps (after bad p base) (a .1) (after-whole p base (a .0) w)
 
     -- the ticket of a tag, over whole contents
-    pub found-whole : {t j : ℕ} {ps : List Place} → Stands t ps j → (d : Place) (base : Contents) → all-well size bad′ ps ≡ true → Whole base
+    pub found-whole : {t j : ℕ} {ps : List Place} → Stands by-tag t ps j → (d : Place) (base : Contents) → all-well size bad′ ps ≡ true → Whole base
         → (b : Contents) × Whole b × (found t (tickets-over bad ps base) ≡ Some (ticket b (getD ps j d)))
     found-whole {t} (Stands.here {p} {ps} h) d base a w = (base, w, cond-true (eqb t (p .tag)) (Some (ticket base p)) (found t (tickets-over bad ps (after bad p base))) h)
     found-whole {t} (Stands.there {p} {ps} h s) d base a w =
@@ -199,9 +201,9 @@ moved {size} {size′} {most} {most′} {named} {named′} {ps} {ps′} {base} {
 count-by : (size : ℕ) (bad′ : ℕ → Bool) (ps : List Place) (t : ℕ) → all-well size bad′ ps ≡ true → (o : Option ℕ) → index-of t ps ≡ o → count-place (place-of t ps) ≤ 1024
 count-by size bad′ ps t w None e = let z = ap count-place (absent-place t ps e) in omega (arith, z)
 count-by size bad′ ps t w (Some j) e =
-    let s = stands t j ps e in
+    let s = stands by-tag t j ps e in
     let z = ap count-place (stands-place s blank) in
-    let r = room-short size bad′ (getD ps j blank) (fits-from size bad′ (getD ps j blank) (well-at size bad′ ps j blank w (stands-within s))) in
+    let r = room-short size bad′ (getD ps j blank) (fits-from size bad′ (getD ps j blank) (well-at size bad′ ps j blank w (stands-within by-tag s))) in
     omega (arith, z, r)
 
 pub count-fits : (size : ℕ) (bad′ : ℕ → Bool) (ps : List Place) (t : ℕ) → all-well size bad′ ps ≡ true → count-place (place-of t ps) ≤ 1024
@@ -220,7 +222,7 @@ entry-same : (most : ℕ) (bad : ℕ → Bool) (ps : List Place) (base : Content
     → _≡_ {A = Result Kind Cause} (cond (tag-is-open t (tickets-over bad ps base)) (Err causes.TagOpen) (cond (eqb (length (tickets-over bad ps base)) most) (Err causes.Full) (Ok k))) (entry-as most o (length ps) k)
 entry-same most bad ps base t k (Some i) e =
     cond-true (tag-is-open t (tickets-over bad ps base)) (Err causes.TagOpen) (cond (eqb (length (tickets-over bad ps base)) most) (Err causes.Full) (Ok k))
-    (over.open-over bad t ps base ∙ stands-has (stands t i ps e))
+    (over.open-over bad t ps base ∙ stands-has (stands by-tag t i ps e))
 entry-same most bad ps base t k None e =
     cond-false (tag-is-open t (tickets-over bad ps base)) (Err causes.TagOpen) (cond (eqb (length (tickets-over bad ps base)) most) (Err causes.Full) (Ok k))
     (over.open-over bad t ps base ∙ absent-has t ps e)
@@ -372,14 +374,14 @@ module _ (size most : ℕ) (named : List ℕ) (ps : List Place) (base medium : C
     -- the place and the ticket of the tag
     abbrev Meets : Type 0
     Meets = ((place-of t ps ≡ None) × (found t (tickets-over bad ps base) ≡ None))
-        ⊎ ((j : ℕ) × (b : Contents) × Stands t ps j × Whole b × (place-of t ps ≡ Some (getD ps j blank)) × (found t (tickets-over bad ps base) ≡ Some (ticket b (getD ps j blank))) × Fits size (names named) (getD ps j blank))
+        ⊎ ((j : ℕ) × (b : Contents) × Stands by-tag t ps j × Whole b × (place-of t ps ≡ Some (getD ps j blank)) × (found t (tickets-over bad ps base) ≡ Some (ticket b (getD ps j blank))) × Fits size (names named) (getD ps j blank))
 
     meets-by : (o : Option ℕ) → index-of t ps ≡ o → Meets
     meets-by None e = inl (absent-place t ps e, over.found-none bad t ps base (absent-has t ps e))
     meets-by (Some j) e =
-        let s = stands t j ps e in
+        let s = stands by-tag t j ps e in
         let r = found-whole size (names named) bad s blank base (k .well) (k .whole) in
-        inr (j, r .0, s, r .1, stands-place s blank, r .2, fits-from size (names named) (getD ps j blank) (well-at size (names named) ps j blank (k .well) (stands-within s)))
+        inr (j, r .0, s, r .1, stands-place s blank, r .2, fits-from size (names named) (getD ps j blank) (well-at size (names named) ps j blank (k .well) (stands-within by-tag s)))
 
     meets : Meets
     meets = meets-by (index-of t ps) refl
@@ -417,7 +419,7 @@ module _ (size most : ℕ) (named : List ℕ) (ps : List Place) (base medium : C
         leaves = ap (λ z. meant-over size most named (rest-as z t ps) base medium) g ∙ sym (ap (λ z. collected-as z device t) a);
       }
 
-      giving : (j : ℕ) (b : Contents) → Stands t ps j → Whole b → Fits size (names named) (getD ps j blank) → getD ps j blank .ready ≡ true
+      giving : (j : ℕ) (b : Contents) → Stands by-tag t ps j → Whole b → Fits size (names named) (getD ps j blank) → getD ps j blank .ready ≡ true
           → got ≡ Ok (getD ps j blank) → asked ≡ Ok (ticket b (getD ps j blank)) → Collects
       giving j b s w f r g a =
           let p = getD ps j blank in
@@ -433,7 +435,7 @@ module _ (size most : ℕ) (named : List ℕ) (ps : List Place) (base medium : C
                 ∙ sym (ap (λ z. collected-as z device t) a)));
           }
 
-      there-by : (j : ℕ) (b : Contents) → Stands t ps j → Whole b → Fits size (names named) (getD ps j blank)
+      there-by : (j : ℕ) (b : Contents) → Stands by-tag t ps j → Whole b → Fits size (names named) (getD ps j blank)
           → place-of t ps ≡ Some (getD ps j blank) → found t (tickets-over bad ps base) ≡ Some (ticket b (getD ps j blank))
           → (r : Bool) → getD ps j blank .ready ≡ r → (l : Bool) → ltb (length buffer) (byte-room (getD ps j blank)) ≡ l → Collects
       there-by j b s w f pl fo false r l lt =

@@ -23,6 +23,7 @@ use Rattle.device.specs.Meaning.{Contents, mask-of, bytes-of, is-read}
 use Rattle.device.specs.Submit.{fair-count, form}
 use Rattle.device.proofs.Forms.{form-ok, fair-short, due-short}
 use Rattle.tickets.specs.declared.place.Place.{Place}
+use Rattle.tickets.specs.Places.{by-tag}
 use Rattle.tickets.specs.Fresh.{fresh}
 use Rattle.sectors.specs.Memory.{names}
 use Rattle.tickets.specs.declared.front.Front.{Front}
@@ -30,7 +31,8 @@ use Rattle.tickets.specs.Meant.{well, all-well, place-of, has-tag, apart, in-t
 use Rattle.tickets.specs.Open.{places-of}
 use Rattle.tickets.proofs.Keeps.{apart-set, well-at, well-set, in-turn-serve}
 use Rattle.tickets.specs.Places.{index-of, first-waiting}
-use Rattle.tickets.proofs.Stands.{Stands, Oldest, stands, oldest, oldest-within, absent-place, absent-has, stands-place}
+use Rattle.tickets.proofs.Stands.{Oldest, oldest, oldest-within, absent-place, absent-has, stands-place}
+use Rattle.device.proofs.Lookup.{Stands, stands}
 use Rattle.tickets.specs.Front.{filled, served, byte-room, due-place, entry-as, admitted-as}
 use Rattle.sectors.proofs.Runs.{length-bytes}
 
@@ -127,8 +129,8 @@ due-there o p room e h le =
     ∙ cond-false (ltb room (byte-room p)) (Err causes.ShortBuffer) (Ok p) (le-ltb room (byte-room p) le))
 
 module _ (t i : ℕ) (ps : List Place) (r : Option ℕ) (e : r ≡ index-of t ps) where
-  pub at-tag : r ≡ Some i → Stands t ps i
-  at-tag h = stands t i ps (sym e ∙ h)
+  pub at-tag : r ≡ Some i → Stands by-tag t ps i
+  at-tag h = stands by-tag t i ps (sym e ∙ h)
 
   pub no-place : r ≡ None → place-of t ps ≡ None
   no-place h = absent-place t ps (sym e ∙ h)

@@ -17,9 +17,11 @@ use Rattle.device.specs.Questions.{tag-at}
 use Rattle.device.specs.Turns.{waiting, none-ready, waiting-write-at, open-write-at, made-ready, Readied, Flushed, flush-free, flush-order}
 use Rattle.device.specs.Sound.{distinct}
 use Rattle.tickets.specs.declared.place.Place.{Place}
+use Rattle.tickets.specs.Places.{by-tag}
 use Rattle.tickets.specs.Places.{tag-of, waiting-from}
 use Rattle.tickets.specs.Meant.{held, after, owed-as, ticket, tickets-over, disk-over, has-tag, apart, all-wait, in-turn, less}
-use Rattle.tickets.proofs.Stands.{Stands, Oldest}
+use Rattle.tickets.proofs.Stands.{Oldest}
+use Rattle.device.proofs.Lookup.{Stands}
 use Rattle.tickets.proofs.Keeps.{wait-in-turn}
 
 -- a ready place puts nothing on
@@ -73,7 +75,7 @@ module _ (bad : ℕ → Bool) where
   disk-push (p ∷ ps) q base = disk-push ps q (after bad p base)
 
   -- taking out a ready place
-  pub tickets-less : {t j : ℕ} {ps : List Place} → Stands t ps j → (d : Place) (base : Contents) → getD ps j d .ready ≡ true → without t (tickets-over bad ps base) ≡ tickets-over bad (less t ps) base
+  pub tickets-less : {t j : ℕ} {ps : List Place} → Stands by-tag t ps j → (d : Place) (base : Contents) → getD ps j d .ready ≡ true → without t (tickets-over bad ps base) ≡ tickets-over bad (less t ps) base
   tickets-less {t} (Stands.here {p} {ps} h) d base r =
       cond-true (eqb t (p .tag)) (tickets-over bad ps (after bad p base)) (ticket base p ∷ without t (tickets-over bad ps (after bad p base))) h
       ∙ (ap (tickets-over bad ps) (after-ready bad p base r)
@@ -83,7 +85,7 @@ module _ (bad : ℕ → Bool) where
       ∙ (ap (λ ts. ticket base p ∷ ts) (tickets-less s d (after bad p base) r)
       ∙ ap (λ xs. tickets-over bad xs base) (sym (cond-false (eqb t (p .tag)) ps (p ∷ less t ps) h)))
 
-  pub disk-less : {t j : ℕ} {ps : List Place} → Stands t ps j → (d : Place) (base : Contents) → getD ps j d .ready ≡ true → disk-over bad ps base ≡ disk-over bad (less t ps) base
+  pub disk-less : {t j : ℕ} {ps : List Place} → Stands by-tag t ps j → (d : Place) (base : Contents) → getD ps j d .ready ≡ true → disk-over bad ps base ≡ disk-over bad (less t ps) base
   disk-less {t} (Stands.here {p} {ps} h) d base r =
       ap (disk-over bad ps) (after-ready bad p base r) ∙ ap (λ xs. disk-over bad xs base) (sym (cond-true (eqb t (p .tag)) ps (p ∷ less t ps) h))
   disk-less {t} (Stands.there {p} {ps} h s) d base r =

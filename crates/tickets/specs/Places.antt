@@ -2,18 +2,18 @@
 use mathlib.Core.List.{List, [], _∷_}
 use mathlib.Core.Bool.{cond}
 use Prim.Native.Nat.{ℕ, zero, suc, _+_}
-use lib.Dec.{eqb}
 use Rattle.std.specs.declared.option.Option.{Option}
 use Rattle.std.specs.declared.option.Option.the-variants.{Some, None}
+use Rattle.device.specs.Lookup.{index-by}
 use Rattle.tickets.specs.declared.place.Place.{Place}
 
--- where the place of a tag stands, counted from n
-abbrev pub index-from : ℕ → ℕ → List Place → Option ℕ
-index-from n t [] = None
-index-from n t (p ∷ ps) = cond (eqb t (p .tag)) (Some n) (index-from (n + 1) t ps)
+-- a place goes by its tag
+abbrev pub by-tag : Place → ℕ
+by-tag p = p .tag
 
+-- where the place of a tag stands
 abbrev pub index-of : ℕ → List Place → Option ℕ
-index-of t ps = index-from 0 t ps
+index-of t ps = index-by by-tag 0 t ps
 
 -- where the oldest that waits stands, counted from n
 abbrev pub waiting-from : ℕ → List Place → Option ℕ

@@ -6,14 +6,16 @@ use lib.ListN.{length, set}
 use Rattle.std.proofs.shelf.Tests.{cond-true, cond-false}
 use Rattle.std.specs.Of.Vec.{vec-items}
 use Rattle.drive.specs.Buffer.{entry, stands-in, renewed, eased, pushed-out}
-use Rattle.drive.proofs.Finding.{stands, stands-within, stands-has, stands-renewed, absent}
+use Rattle.drive.proofs.Finding.{at-sector, stands-has, stands-renewed, absent}
+use Rattle.device.proofs.Lookup.{stands-within}
+use Rattle.drive.specs.Buffer.{by-sector}
 use Rattle.drive.proofs.Keeping.{eased-room}
 use Rattle.drive.proofs.buffer.bring_in.Needs as need
 
 pub index-mut-requires : need.index-mut-requires
 index-mut-requires c κs =
     let v = c .args .entries .now in
-    omega (arith, stands-within (stands (c .args .sector) (c .in-Some .i) (vec-items v) (c .find .result) (c .find .ensures) (c .in-Some .is)), v .ok .0)
+    omega (arith, stands-within by-sector (at-sector (c .args .sector) (c .in-Some .i) (vec-items v) (c .find .result) (c .find .ensures) (c .in-Some .is)), v .ok .0)
 
 pub push-reserved-requires : need.push-reserved-requires
 push-reserved-requires c κs =
@@ -29,7 +31,7 @@ returns-in-Some c =
     let p = c .index-mut .result .now in
     let row = c .args .memory .now in
     let named = c .args .named .now in
-    let st = stands (c .args .sector) i es (c .find .result) (c .find .ensures) (c .in-Some .is) in
+    let st = at-sector (c .args .sector) i es (c .find .result) (c .find .ensures) (c .in-Some .is) in
     let has = stands-has st in
     record {
       entries = ap (set es i) (c .renew .ensures ∙ ap (λ z. entry (z .sector) x) (c .index-mut .ensures .value))

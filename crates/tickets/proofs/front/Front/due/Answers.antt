@@ -1,3 +1,4 @@
+use Rattle.tickets.specs.Places.{by-tag}
 use mathlib.Core.Path.{_≡_, refl, sym, ap, _∙_}
 use Prim.Native.Nat.{_-_, _≤_, _<_}
 use native.Mathlib.Omega.{arith}
@@ -6,7 +7,7 @@ use Rattle.std.proofs.shelf.Lists.{getD-default}
 use Rattle.tickets.specs.Meant.{place-of}
 use Rattle.tickets.specs.Front.{blank, byte-room, due-place}
 use Rattle.tickets.specs.Open.{places-of}
-use Rattle.tickets.proofs.Stands.{stands-within}
+use Rattle.device.proofs.Lookup.{stands-within}
 use Rattle.tickets.proofs.FrontFacts.{at-tag, no-place, lent-place, due-waits, due-shorts, due-there}
 use Rattle.tickets.proofs.front.Front.due.Needs as need
 
@@ -16,7 +17,7 @@ returns-in-rest c = ap (λ o. due-place o (c .args .room)) (no-place (c .args .t
 pub index-place-requires : need.index-place-requires
 index-place-requires c κs =
     let s = c .args .self .now in
-    omega (arith, stands-within (at-tag (c .args .tag) (c .in-Some .i) (places-of s) (c .find .result) (c .find .ensures) (c .in-Some .is)), s .table .places .ok .0)
+    omega (arith, stands-within by-tag (at-tag (c .args .tag) (c .in-Some .i) (places-of s) (c .find .result) (c .find .ensures) (c .in-Some .is)), s .table .places .ok .0)
 
 pub returns-then-not-place : need.returns-then-not-place
 returns-then-not-place c =
@@ -40,5 +41,5 @@ returns c =
     let at = at-tag (c .args .tag) i ps (c .find .result) (c .find .ensures) (c .in-Some .is) in (
       sym (c .find .ensures) ∙ c .in-Some .is,
       due-there (place-of (c .args .tag) ps) p (c .args .room) (lent-place (c .args .tag) i ps (c .find .result) (c .find .ensures) (c .in-Some .is) p (c .index-place .ensures)) (c .if-not-place .left) le
-          ∙ ap Ok (c .index-place .ensures ∙ getD-default ps i p blank (stands-within at)),
+          ∙ ap Ok (c .index-place .ensures ∙ getD-default ps i p blank (stands-within by-tag at)),
     )

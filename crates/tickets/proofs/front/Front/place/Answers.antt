@@ -1,15 +1,16 @@
+use Rattle.tickets.specs.Places.{by-tag}
 use mathlib.Core.Path.{sym}
 use Prim.Native.Nat.{_-_}
 use native.Mathlib.Omega.{arith}
 use Rattle.tickets.specs.Open.{places-of}
-use Rattle.tickets.proofs.Stands.{stands-within}
+use Rattle.device.proofs.Lookup.{stands-within}
 use Rattle.tickets.proofs.FrontFacts.{at-tag, no-place, lent-place}
 use Rattle.tickets.proofs.front.Front.place.Needs as need
 
 pub index-requires : need.index-requires
 index-requires c κs =
     let s = c .args .self .now in
-    omega (arith, stands-within (at-tag (c .args .tag) (c .in-Some .i) (places-of s) (c .find .result) (c .find .ensures) (c .in-Some .is)), s .table .places .ok .0)
+    omega (arith, stands-within by-tag (at-tag (c .args .tag) (c .in-Some .i) (places-of s) (c .find .result) (c .find .ensures) (c .in-Some .is)), s .table .places .ok .0)
 
 pub returns-in-Some : need.returns-in-Some
 returns-in-Some c = sym (lent-place (c .args .tag) (c .in-Some .i) (places-of (c .args .self .now)) (c .find .result) (c .find .ensures) (c .in-Some .is) (c .index .result .now) (c .index .ensures))
