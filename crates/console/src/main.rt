@@ -1,4 +1,6 @@
 // The console: reads a script from standard input and prints what each call answered.
+#![tactic(auto)]
+
 mod command;
 mod play;
 mod script;

@@ -1,3 +1,5 @@
+#![tactic(auto)]
+
 mod dispatch;
 mod laws;
 mod making;

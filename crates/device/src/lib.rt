@@ -1,3 +1,5 @@
+#![tactic(auto)]
+
 mod device;
 mod fault;
 mod faults;

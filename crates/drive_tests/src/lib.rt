@@ -1,4 +1,6 @@
 // Examples of what a drive answers, and of what reaches its medium. Each is proved to be safe, and run.
+#![tactic(auto)]
+
 #[cfg(test)]
 mod tests {
     use device::{Device, Request};

@@ -1,3 +1,5 @@
+#![tactic(auto)]
+
 mod dry;
 
 pub use dry::run_dry;

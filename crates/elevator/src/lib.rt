@@ -1,3 +1,5 @@
+#![tactic(auto)]
+
 mod accept;
 mod as_device;
 mod elevator;

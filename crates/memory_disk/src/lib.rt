@@ -1,3 +1,5 @@
+#![tactic(auto)]
+
 mod as_device;
 mod disk;
 mod service;

@@ -1,4 +1,6 @@
 // Examples of what a memory disk answers. Each is proved to be safe, and run.
+#![tactic(auto)]
+
 #[cfg(test)]
 mod tests {
     use device::{Device, Refusal, Request, fault_at};

@@ -1,3 +1,5 @@
+#![tactic(auto)]
+
 mod choose;
 mod join;
 mod questions;

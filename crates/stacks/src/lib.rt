@@ -1,4 +1,6 @@
 // Stacks of layers: the promises of a history apply to them, and what they answer on examples.
+#![tactic(auto)]
+
 #[cfg(test)]
 mod examples;
 mod promised;
