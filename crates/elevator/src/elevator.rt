@@ -23,7 +23,7 @@ pub struct Elevator<D> {
 
 /// Whether a layer over the device only asks questions: it has open tickets, or no room for any.
 fn closed_over<D: Device>(lower: &D) -> bool
-    ensures { kept lower.now → result ≡ shut_over (meaning lower.now) }
+    ensures { D.kept lower.now → result ≡ shut_over (D.meaning lower.now) }
 {
     let full = 0 < lower.open_tickets();
     let none = lower.capacity() == 0;
@@ -52,7 +52,7 @@ impl<D: Device + Drop> Elevator<D> {
 impl<D: Device> Elevator<D> {
     /// A refusal at the layer's height.
     pub(crate) fn refused(&self, cause: Cause) -> Refusal
-        ensures { kept self.now.lower → result ≡ record { cause = cause; height = layer_height (meaning self.now.lower).height } }
+        ensures { D.kept self.now.lower → result ≡ record { cause = cause; height = layer_height (D.meaning self.now.lower).height } }
     {
         Refusal {
             cause,

@@ -104,8 +104,8 @@ pub(crate) fn serve<D: Device>(
     first: u32,
     count: u32,
 ) -> u32
-    ensures keeps { kept below.old → kept below.new }
-    ensures serves { kept below.old → Servable (meaning below.old) kind first count → count ≤ longest_run → Serviced meaning does scheduler.now.waiting.items scheduler.now.latest kind first count below.old below.new table.old.places.items table.new.places.items result }
+    ensures keeps { D.kept below.old → D.kept below.new }
+    ensures serves { D.kept below.old → Servable (D.meaning below.old) kind first count → count ≤ longest_run → Serviced D.meaning D.does scheduler.now.waiting.items scheduler.now.latest kind first count below.old below.new table.old.places.items table.new.places.items result }
     ensures room { vec_capacity table.new.places ≡ vec_capacity table.old.places }
 {
     let mut buffer = [0; RUN_BYTES];

@@ -8,7 +8,7 @@ use std::alloc::{AllocError, Global};
 
 /// The open tickets, the oldest first, each with its state.
 pub fn open_list<D: Device>(heap: Global, device: &D) -> Result<Vec<OpenTicket>, AllocError>
-    ensures { kept device.now → IfOk result (λ v. v.items ≡ open_list (meaning device.now).tickets) }
+    ensures { D.kept device.now → IfOk result (λ v. v.items ≡ open_list (D.meaning device.now).tickets) }
 {
     let mut list = Vec::new(heap);
     let open = device.open_tickets();

@@ -9,8 +9,8 @@ use std::alloc::{AllocError, Global};
 
 /// Sends one call. If there is no memory for the answer, nothing is sent.
 fn send<D: Device>(heap: Global, device: &mut D, call: Call) -> Result<Event, AllocError>
-    ensures keeps { kept device.old → kept device.new }
-    ensures sends { kept device.old → MatchResult result (λ e. (call_of e ≡ call) × Step meaning does device.old e device.new) (λ _. device.new ≡ device.old) }
+    ensures keeps { D.kept device.old → D.kept device.new }
+    ensures sends { D.kept device.old → MatchResult result (λ e. (call_of e ≡ call) × Step D.meaning D.does device.old e device.new) (λ _. device.new ≡ device.old) }
 {
     match call {
         Call::Submit {
@@ -63,8 +63,8 @@ fn send_each<D: Device>(
     log: &mut Vec<Event>,
 ) -> Result<(), AllocError>
     requires { log.old.items ≡ [] }
-    ensures keeps { kept device.old → kept device.new }
-    ensures heard { kept device.old → MatchResult result (λ _. SentAll meaning does device.old calls.items log.new.items device.new) (λ _. SentSome meaning does device.old calls.items device.new) }
+    ensures keeps { D.kept device.old → D.kept device.new }
+    ensures heard { D.kept device.old → MatchResult result (λ _. SentAll D.meaning D.does device.old calls.items log.new.items device.new) (λ _. SentSome D.meaning D.does device.old calls.items device.new) }
 {
     for call in calls {
         let event = send(heap, device, call)?;
@@ -80,8 +80,8 @@ pub fn send_all<D: Device>(
     device: &mut D,
     calls: Vec<Call>,
 ) -> Result<Vec<Event>, AllocError>
-    ensures keeps { kept device.old → kept device.new }
-    ensures heard { kept device.old → MatchResult result (λ log. SentAll meaning does device.old calls.items log.items device.new) (λ _. SentSome meaning does device.old calls.items device.new) }
+    ensures keeps { D.kept device.old → D.kept device.new }
+    ensures heard { D.kept device.old → MatchResult result (λ log. SentAll D.meaning D.does device.old calls.items log.items device.new) (λ _. SentSome D.meaning D.does device.old calls.items device.new) }
 {
     let mut log = Vec::new(heap);
     send_each(heap, device, calls, &mut log)?;

@@ -16,8 +16,8 @@ pub struct Offset<D> {
 
 /// Whether an offset over the device only asks questions: it has open tickets, or no room for any.
 fn closed_over<D: Device>(lower: &D) -> bool
-    ensures shut { kept lower.now → result ≡ shut_over (meaning lower.now) }
-    ensures within { kept lower.now → (base most : ℕ) → Within base most result (meaning lower.now) }
+    ensures shut { D.kept lower.now → result ≡ shut_over (D.meaning lower.now) }
+    ensures within { D.kept lower.now → (base most : ℕ) → Within base most result (D.meaning lower.now) }
 {
     let full = 0 < lower.open_tickets();
     let none = lower.capacity() == 0;
@@ -27,8 +27,8 @@ fn closed_over<D: Device>(lower: &D) -> bool
 impl<D: Device> Offset<D> {
     /// An offset over a device; over one that has open tickets, or no room for any, it only asks questions.
     pub fn new(lower: D, base: u32, most: u32) -> Offset<D>
-        ensures keeps { kept lower → kept result.lower × Within result.base result.most result.closed (meaning result.lower) }
-        ensures means { kept lower → over result.base result.most result.closed (meaning result.lower) ≡ set_up base most (meaning lower) }
+        ensures keeps { D.kept lower → D.kept result.lower × Within result.base result.most result.closed (D.meaning result.lower) }
+        ensures means { D.kept lower → over result.base result.most result.closed (D.meaning result.lower) ≡ set_up base most (D.meaning lower) }
     {
         let closed = closed_over(&lower);
         Offset {
@@ -41,14 +41,14 @@ impl<D: Device> Offset<D> {
 
     /// The sectors of the stretch.
     pub(crate) fn sectors(&self) -> u32
-        ensures { kept self.now.lower → result ≡ room self.now.base self.now.most (meaning self.now.lower).size }
+        ensures { D.kept self.now.lower → result ≡ room self.now.base self.now.most (D.meaning self.now.lower).size }
     {
         self.most.min(self.lower.size().saturating_sub(self.base))
     }
 
     /// A refusal at the layer's height.
     pub(crate) fn refused(&self, cause: Cause) -> Refusal
-        ensures { kept self.now.lower → result ≡ record { cause = cause; height = layer_height (meaning self.now.lower).height } }
+        ensures { D.kept self.now.lower → result ≡ record { cause = cause; height = layer_height (D.meaning self.now.lower).height } }
     {
         Refusal {
             cause,

@@ -26,9 +26,9 @@ pub fn serve_below<D: Device>(
     buffer: &mut [u8],
     tick: u32,
 ) -> (u32, u8)
-    ensures keeps { kept below.old → kept below.new }
-    ensures serves { kept below.old → Servable (meaning below.old) kind first count → count * sector_bytes ≤ length buffer.old → Served (meaning below.old) (meaning below.new) kind first count buffer.old buffer.new result.0 result.1 }
-    ensures calls { kept below.old → Servable (meaning below.old) kind first count → count * sector_bytes ≤ length buffer.old → Called does below.old below.new kind first count buffer.old buffer.new tick result.0 result.1 }
+    ensures keeps { D.kept below.old → D.kept below.new }
+    ensures serves { D.kept below.old → Servable (D.meaning below.old) kind first count → count * sector_bytes ≤ length buffer.old → Served (D.meaning below.old) (D.meaning below.new) kind first count buffer.old buffer.new result.0 result.1 }
+    ensures calls { D.kept below.old → Servable (D.meaning below.old) kind first count → count * sector_bytes ≤ length buffer.old → Called D.does below.old below.new kind first count buffer.old buffer.new tick result.0 result.1 }
 {
     let given = data_length(kind, count).min(buffer.len());
     let request = Request {

@@ -5,7 +5,7 @@ use Rattle.sectors.proofs.lent.read_sectors.Goals as goal
 
 pub loop-i-preserved : goal.loop-i-preserved
 loop-i-preserved c =
-    read_more (seen c.args.named.now c.args.memory.now) c.args.first c.loop-i.i c.loop-i.into c.args.into.now c.read-sector.new.into
+    read_more (seen c.args.named.now c.args.memory.now) c.args.first c.loop-i.i c.loop-i.into c.args.into.now c.read_sector.new.into
     (length_bytes _ c.args.first c.loop-i.i
     (λ s lt. length_seen c.args.named.now c.args.memory.now s (omega arith)))
-    c.loop-i.invariant c.read-sector.ensures
+    c.loop-i.invariant c.read_sector.ensures
