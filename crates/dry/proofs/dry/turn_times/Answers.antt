@@ -23,11 +23,11 @@ loop-i-preserved g c = (
       let m'' = g.D.Device.meaning c.turn-more.new.self in
       let b = c.turn-more.ensures.turns i.0 in (
         c.turn-more.ensures.keeps i.0,
-        (λ n. fewer m' m'' c.turn-more.result c.loop-i.-i c.args.times b (i.1 n) c.loop-i-test.true),
+        (λ n. fewer m' m'' c.turn-more.result c.loop-i._i c.args.times b (i.1 n) c.loop-i-test.true),
         (
           i.2.0 + c.turn-more.result,
           Turning.more i.2.1 b (c.turn-more.ensures.did i.0),
-          sums c.loop-i.ticks c.min-ticks.result c.saturating-add.result c.turn-more.result i.2.0 (i.2.0 + c.turn-more.result) c.loop-i.invariant.0 c.saturating-add.ensures c.min-ticks.ensures i.2.2 refl,
+          sums c.loop-i.ticks c.min-ticks.result c.saturating_add.result c.turn-more.result i.2.0 (i.2.0 + c.turn-more.result) c.loop-i.invariant.0 c.saturating_add.ensures c.min-ticks.ensures i.2.2 refl,
         ),
       ),
 )

@@ -8,5 +8,5 @@ invariant-loop-i g l =
     (l.ticks ≤ 60000)
     × (g.D.Device.kept l.initial.device
     → g.D.Device.kept l.device
-    × (length (g.D.Device.meaning l.initial.device).tickets ≤ l.times → waiting (g.D.Device.meaning l.device).tickets + l.-i ≤ l.times)
+    × (length (g.D.Device.meaning l.initial.device).tickets ≤ l.times → waiting (g.D.Device.meaning l.device).tickets + l._i ≤ l.times)
     × ((sum : ℕ) × (Turning g.D.Device.meaning g.D.Device.does l.tick l.initial.device l.device sum) × (l.ticks ≡ min sum 60000)))

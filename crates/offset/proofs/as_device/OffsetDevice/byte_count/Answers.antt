@@ -9,4 +9,4 @@ pub returns-else-self : goal.returns-else-self
 returns-else-self g c = λ k.
     let d = c.args.self.now in
     let ts = (g.D.Device.meaning d.lower).tickets in
-    c.byte-count.ensures k.0 ∙ sym (ap (byte_count c.args.tag) (opened d.closed (all_shifted d.base ts) c.if-self.false) ∙ count_shifted d.base c.args.tag ts)
+    c.byte_count.ensures k.0 ∙ sym (ap (byte_count c.args.tag) (opened d.closed (all_shifted d.base ts) c.if-self.false) ∙ count_shifted d.base c.args.tag ts)

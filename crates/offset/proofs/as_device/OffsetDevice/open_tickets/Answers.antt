@@ -9,4 +9,4 @@ pub returns-else-self : goal.returns-else-self
 returns-else-self g c = λ k.
     let d = c.args.self.now in
     let ts = (g.D.Device.meaning d.lower).tickets in
-    c.open-tickets.ensures k.0 ∙ sym (ap length (opened d.closed (all_shifted d.base ts) c.if-self.false) ∙ length_shifted d.base ts)
+    c.open_tickets.ensures k.0 ∙ sym (ap length (opened d.closed (all_shifted d.base ts) c.if-self.false) ∙ length_shifted d.base ts)
