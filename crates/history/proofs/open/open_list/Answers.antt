@@ -11,22 +11,22 @@ pub loop-i-preserved : goal.loop-i-preserved
 loop-i-preserved g c k =
     let m = g.D.Device.meaning c.args.device.now in
     let i = c.loop-i.i in
-    elim c.match-tag-at.branch [
-      | goal.in-Some+in-ok-push w ↦
+    elim c.match-tag_at.branch [
+      | goal.in-Some+in_ok-push w ↦
           let t = w.in-Some.tag in
-          let at : tag_at i m.tickets ≡ Some t = sym (c.tag-at.ensures k) ∙ w.in-Some.is in
+          let at : tag_at i m.tickets ≡ Some t = sym (c.tag_at.ensures k) ∙ w.in-Some.is in
           let one : State → List OpenTicket = λ s. record { tag = t; state = s } ∷ [] in
           ap vec_items w.list-is
-          ∙ pushed (one w.state-state.result) refl w.in-ok-push.was w.push.ensures.items
+          ∙ pushed (one w.state-state.result) refl w.in_ok-push.was w.push.ensures.items
           ∙ ap (λ l. l ++ one w.state-state.result) (c.loop-i.invariant k)
           ∙ ap (λ s. take i (open_list m.tickets) ++ one s) (w.state-state.ensures k)
           ∙ sym (open_more m.tickets i t (g.D.Device.sound c.args.device.now k).tags at)
           ∙ ap (λ n. take n (open_list m.tickets)) (sym (add-one i))
-      | goal.in-default w ↦ absurd (inside m.tickets i (omega (arith, c.open-tickets-open.ensures k)) (sym (c.tag-at.ensures k) ∙ w.in-default.is))
+      | goal.in_default w ↦ absurd (inside m.tickets i (omega (arith, c.open_tickets-open.ensures k)) (sym (c.tag_at.ensures k) ∙ w.in_default.is))
     ]
 
 pub returns : goal.returns
 returns g c k =
     let ts = (g.D.Device.meaning c.args.device.now).tickets in
-    let le : length ts ≤ c.loop-i.i = omega (arith, c.open-tickets-open.ensures k) in
+    let le : length ts ≤ c.loop-i.i = omega (arith, c.open_tickets-open.ensures k) in
     c.loop-i.invariant k ∙ open_all ts c.loop-i.i le

@@ -2,7 +2,7 @@ use Rattle.std.proofs.Common.{◌≡◌, ℕ, ◌+◌, ◌*◌, ◌≤◌, lengt
 use Rattle.mirror.specs.Means.{bit}
 use Rattle.mirror.proofs.Masks.{patch_set, patch_left}
 use Rattle.mirror.proofs.mix.patch.Goals as goal
-use Rattle.mirror.proofs.mix.patch.Goals.{then-has-bit, else-has-bit}
+use Rattle.mirror.proofs.mix.patch.Goals.{then-has_bit, else-has_bit}
 
 pub loop-i-preserved : goal.loop-i-preserved
 loop-i-preserved c =
@@ -11,7 +11,7 @@ loop-i-preserved c =
     let other = c.args.other.now in
     let a : (i + 1) * 128 ≤ length start = omega arith in
     let b : (i + 1) * 128 ≤ length other = omega arith in
-    elim c.if-has-bit.branch [
-      | then-has-bit w ↦ w.buffer-is ∙ patch_set (bit c.args.mask) i start other c.loop-i.buffer a b c.loop-i.invariant w.copy-from-slice.new.self w.if-has-bit.ensures w.copy-from-slice.ensures.after
-      | else-has-bit w ↦ w.buffer-is ∙ patch_left (bit c.args.mask) i start other c.loop-i.buffer a b c.loop-i.invariant w.if-has-bit.ensures
+    elim c.if-has_bit.branch [
+      | then-has_bit w ↦ w.buffer-is ∙ patch_set (bit c.args.mask) i start other c.loop-i.buffer a b c.loop-i.invariant w.copy_from_slice.new.self w.if-has_bit.ensures w.copy_from_slice.ensures.after
+      | else-has_bit w ↦ w.buffer-is ∙ patch_left (bit c.args.mask) i start other c.loop-i.buffer a b c.loop-i.invariant w.if-has_bit.ensures
     ]

@@ -18,18 +18,18 @@ returns-in-Ok g c =
     let e = c.collect.ensures in
     let f = c.collect-in-Ok.ensures in
     let s : g.L.Device.kept d.left → g.R.Device.kept d.right → Level d.closed a b → BothCollect d.closed a b tag buffer other c.in-Ok.n
-    = λ k l v. collects_both d.closed a b tag buffer other c.in-Ok.n (length-replicate {A = ℕ} 1024 0) (g.L.Device.sound d.left k) (g.R.Device.sound d.right l) v (sym (c.bytes-due.ensures.answers k l v) ∙ c.in-Ok.is) in
+    = λ k l v. collects_both d.closed a b tag buffer other c.in-Ok.n (length-replicate {A = ℕ} 1024 0) (g.L.Device.sound d.left k) (g.R.Device.sound d.right l) v (sym (c.bytes_due.ensures.answers k l v) ∙ c.in-Ok.is) in
     record {
       keeps = λ k. (
         e.keeps k.0,
         f.keeps k.1,
         subst (Level d.closed a') (sym (f.leaves k.1)) (subst (λ x. Level d.closed x (collected b tag (length other))) (sym (e.leaves k.0)) (s k.0 k.1 k.2).level),
       );
-      answers = λ k. ap₂ (λ x y. Ok (bit_and x y)) (c.mask-in-first.ensures ∙ ap answered (e.answers k.0)) (c.mask-in-second.ensures ∙ ap answered (f.answers k.1)) ∙ (s k.0 k.1 k.2).answer;
+      answers = λ k. ap₂ (λ x y. Ok (bit_and x y)) (c.mask_in-first.ensures ∙ ap answered (e.answers k.0)) (c.mask_in-second.ensures ∙ ap answered (f.answers k.1)) ∙ (s k.0 k.1 k.2).answer;
       hands = λ k.
           c.patch.ensures
-          ∙ (ap (λ n. picked (bit c.mask-in-first.result) n c.collect.new.buffer c.collect-in-Ok.new.buffer ++ drop (n * 128) c.collect.new.buffer) c.min.ensures
-          ∙ (ap (λ m. picked (bit m) (min (c.in-Ok.n / 128) 8) c.collect.new.buffer c.collect-in-Ok.new.buffer ++ drop (min (c.in-Ok.n / 128) 8 * 128) c.collect.new.buffer) (c.mask-in-first.ensures ∙ ap answered (e.answers k.0))
+          ∙ (ap (λ n. picked (bit c.mask_in-first.result) n c.collect.new.buffer c.collect-in-Ok.new.buffer ++ drop (n * 128) c.collect.new.buffer) c.min.ensures
+          ∙ (ap (λ m. picked (bit m) (min (c.in-Ok.n / 128) 8) c.collect.new.buffer c.collect-in-Ok.new.buffer ++ drop (min (c.in-Ok.n / 128) 8 * 128) c.collect.new.buffer) (c.mask_in-first.ensures ∙ ap answered (e.answers k.0))
           ∙ (ap₂ (λ u z. picked (bit (answered (collect_answer a tag (length buffer)))) (min (c.in-Ok.n / 128) 8) u z ++ drop (min (c.in-Ok.n / 128) 8 * 128) u) (e.hands k.0) (f.hands k.1)
           ∙ (s k.0 k.1 k.2).hands)));
       leaves = λ k. ap₂ (mirrored d.closed) (e.leaves k.0) (f.leaves k.1) ∙ (s k.0 k.1 k.2).leaves;

@@ -6,4 +6,4 @@ pub returns-else-self : goal.returns-else-self
 returns-else-self g c = λ k.
     let d = c.args.self.now in
     let s = shows d.closed (g.L.Device.meaning d.left) (g.R.Device.meaning d.right) c.if-self.false (g.L.Device.sound d.left k.0) (g.R.Device.sound d.right k.1) k.2 in
-    c.open-tickets.ensures k.0 ∙ sym s.many
+    c.open_tickets.ensures k.0 ∙ sym s.many

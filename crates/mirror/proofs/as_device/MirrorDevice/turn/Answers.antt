@@ -20,27 +20,27 @@ returns g c =
     let d = c.args.self.now in
     let a = g.L.Device.meaning d.left in
     let b = g.R.Device.meaning d.right in
-    let a' = g.L.Device.meaning c.run-dry-first.new.device in
-    let b' = g.R.Device.meaning c.run-dry-second.new.device in
-    let e = c.run-dry-first.ensures in
-    let f = c.run-dry-second.ensures in
-    let left : g.L.Device.kept d.left → Dried a a' c.run-dry-first.result
-    = λ k. dried g.L.Device.meaning g.L.Device.does c.args.tick d.left c.run-dry-first.new.device c.run-dry-first.result (e.dries k) (g.L.Device.sound d.left k).flush_order in
-    let right : g.R.Device.kept d.right → Dried b b' c.run-dry-second.result
-    = λ k. dried g.R.Device.meaning g.R.Device.does c.args.tick d.right c.run-dry-second.new.device c.run-dry-second.result (f.dries k) (g.R.Device.sound d.right k).flush_order in
+    let a' = g.L.Device.meaning c.run_dry-first.new.device in
+    let b' = g.R.Device.meaning c.run_dry-second.new.device in
+    let e = c.run_dry-first.ensures in
+    let f = c.run_dry-second.ensures in
+    let left : g.L.Device.kept d.left → Dried a a' c.run_dry-first.result
+    = λ k. dried g.L.Device.meaning g.L.Device.does c.args.tick d.left c.run_dry-first.new.device c.run_dry-first.result (e.dries k) (g.L.Device.sound d.left k).flush_order in
+    let right : g.R.Device.kept d.right → Dried b b' c.run_dry-second.result
+    = λ k. dried g.R.Device.meaning g.R.Device.does c.args.tick d.right c.run_dry-second.new.device c.run_dry-second.result (f.dries k) (g.R.Device.sound d.right k).flush_order in
     record {
       keeps = λ k. (
         e.keeps k.0,
         f.keeps k.1,
-        (turns_both d.closed a b a' b' c.run-dry-first.result c.run-dry-second.result c.if-self.false (left k.0) (right k.1) k.2).0,
+        (turns_both d.closed a b a' b' c.run_dry-first.result c.run_dry-second.result c.if-self.false (left k.0) (right k.1) k.2).0,
       );
       turns = λ k. subst (Turned (mirrored d.closed a b) (mirrored d.closed a' b')) (sym c.max.ensures)
-          (turns_both d.closed a b a' b' c.run-dry-first.result c.run-dry-second.result c.if-self.false (left k.0) (right k.1) k.2).1;
+          (turns_both d.closed a b a' b' c.run_dry-first.result c.run_dry-second.result c.if-self.false (left k.0) (right k.1) k.2).1;
       did = λ k. (
         (λ o. absurd (both_ways d.closed c.if-self.false o)),
         (λ o. record {
-          left_ticks = c.run-dry-first.result;
-          right_ticks = c.run-dry-second.result;
+          left_ticks = c.run_dry-first.result;
+          right_ticks = c.run_dry-second.result;
           left = e.dries k.0;
           right = f.dries k.1;
           answer = c.max.ensures;

@@ -36,8 +36,8 @@ returns-then-space-n g c =
     let b = g.R.Device.meaning d.right in
     record {
       answers = λ k l v.
-          sym (cond-true (ltb c.args.space c.byte-count-n.result) (Err causes.ShortBuffer) (Ok c.byte-count-n.result) (lt-ltb c.args.space c.byte-count-n.result c.if-space-n.true))
-          ∙ (ap₂ (λ s n. judged_due s n c.args.space) (sym c.in-Ready.is ∙ c.state.ensures k) (c.byte-count-n.ensures k)
+          sym (cond-true (ltb c.args.space c.byte_count-n.result) (Err causes.ShortBuffer) (Ok c.byte_count-n.result) (lt-ltb c.args.space c.byte_count-n.result c.if-space-n.true))
+          ∙ (ap₂ (λ s n. judged_due s n c.args.space) (sym c.in-Ready.is ∙ c.state.ensures k) (c.byte_count-n.ensures k)
           ∙ sym (dues_open d.closed a b c.args.tag c.args.space c.if-self.false (g.L.Device.sound d.left k) (g.R.Device.sound d.right l) v));
       fits = tt;
     }
@@ -49,8 +49,8 @@ returns-else-space-n g c =
     let b = g.R.Device.meaning d.right in
     record {
       answers = λ k l v.
-          sym (cond-false (ltb c.args.space c.byte-count-n.result) (Err causes.ShortBuffer) (Ok c.byte-count-n.result) (le-ltb c.args.space c.byte-count-n.result c.if-space-n.false))
-          ∙ (ap₂ (λ s n. judged_due s n c.args.space) (sym c.in-Ready.is ∙ c.state.ensures k) (c.byte-count-n.ensures k)
+          sym (cond-false (ltb c.args.space c.byte_count-n.result) (Err causes.ShortBuffer) (Ok c.byte_count-n.result) (le-ltb c.args.space c.byte_count-n.result c.if-space-n.false))
+          ∙ (ap₂ (λ s n. judged_due s n c.args.space) (sym c.in-Ready.is ∙ c.state.ensures k) (c.byte_count-n.ensures k)
           ∙ sym (dues_open d.closed a b c.args.tag c.args.space c.if-self.false (g.L.Device.sound d.left k) (g.R.Device.sound d.right l) v));
       fits = c.if-space-n.false;
     }

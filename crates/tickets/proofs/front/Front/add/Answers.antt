@@ -9,8 +9,8 @@ use Rattle.tickets.proofs.Stands.{absent_has}
 use Rattle.tickets.proofs.FrontFacts.{fresh_well, accepted_place, admitted_parts}
 use Rattle.tickets.proofs.front.Front.add.Goals as goal
 
-pub push-reserved-requires : goal.push-reserved-requires
-push-reserved-requires c =
+pub push_reserved-requires : goal.push_reserved-requires
+push_reserved-requires c =
     let s = c.args.self.now in
     let a = admitted_parts s.capacity (form s.size c.args.request (length c.args.bytes.now)) (places_of s) c.args.request.tag c.args.kind c.requires in
     let ne = eqb-false (length (places_of s)) s.capacity a.2 in
@@ -18,17 +18,17 @@ push-reserved-requires c =
     let lt : length (places_of s) < s.capacity = omega (arith, ne, s.within) in
     omega (arith, lt, v.ok.0, s.room)
 
-pub invariant-of-self : goal.invariant-of-self
-invariant-of-self c =
+pub invariant_of-self : goal.invariant_of-self
+invariant_of-self c =
     let s = c.args.self.now in
     let ps = places_of s in
     let q = c.args.request in
     let d = c.args.bytes.now in
     let k = c.args.kind in
     let a = admitted_parts s.capacity (form s.size q (length d)) ps q.tag k c.requires in
-    let v = c.push-reserved.new.self in
+    let v = c.push_reserved.new.self in
     let place = c.waiting-place.result in
-    let items : vec_items v ≡ ps ++ place ∷ [] = c.push-reserved.ensures.items in
+    let items : vec_items v ≡ ps ++ place ∷ [] = c.push_reserved.ensures.items in
     let made = c.waiting-place.ensures ∙ accepted_place s.size (names s.named) q k c.mask-mask.result d a.0 c.mask-mask.ensures in
     let ne = eqb-false (length ps) s.capacity a.2 in
     let lt : length ps < s.capacity = omega (arith, ne, s.within) in (
@@ -36,9 +36,9 @@ invariant-of-self c =
       (
         s.most,
         (
-          omega (arith, c.push-reserved.ensures.capacity, s.room),
+          omega (arith, c.push_reserved.ensures.capacity, s.room),
           (
-            omega (arith, c.push-reserved.ensures.len, v.ok.0, s.table.places.ok.0, lt),
+            omega (arith, c.push_reserved.ensures.len, v.ok.0, s.table.places.ok.0, lt),
             (
               ap apart items ∙ apart_push ps place s.apart (ap (λ p. has_tag p.tag ps) made ∙ absent_has q.tag ps a.1),
               (
@@ -63,6 +63,6 @@ returns c =
     let a = admitted_parts s.capacity (form s.size q (length d)) ps q.tag k c.requires in
     let made = c.waiting-place.ensures ∙ accepted_place s.size (names s.named) q k c.mask-mask.result d a.0 c.mask-mask.ensures in
     record {
-      places = c.push-reserved.ensures.items ∙ ap (λ p. ps ++ p ∷ []) made;
+      places = c.push_reserved.ensures.items ∙ ap (λ p. ps ++ p ∷ []) made;
       shape = record { size = refl; capacity = refl; named = refl };
     }

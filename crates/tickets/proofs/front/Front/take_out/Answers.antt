@@ -25,7 +25,7 @@ hand-requires c =
     let at = stands by_tag c.args.tag i ps c.requires.0 in
     let is : p ≡ get_or ps i blank = c.index-place.ensures ∙ get_or_default ps i p blank (stands_within by_tag at) in
     let f = fits_from s.size (names s.named) (get_or ps i blank) (well_at s.size (names s.named) ps i blank s.well (stands_within by_tag at)) in
-    let n : c.byte-count-n.result ≡ byte_room (get_or ps i blank) = c.byte-count-n.ensures ∙ ap byte_room is in
+    let n : c.byte_count-n.result ≡ byte_room (get_or ps i blank) = c.byte_count-n.ensures ∙ ap byte_room is in
     record {
       short = omega (arith, n, room_short s.size (names s.named) (get_or ps i blank) f);
       fits = omega (arith, n, due_room (place_of c.args.tag ps) (length c.args.buffer.now) (get_or ps i blank) c.requires.1);
@@ -36,8 +36,8 @@ remove-done-requires c =
     let s = c.args.self.now in
     omega (arith, stands_within by_tag (stands by_tag c.args.tag c.args.i (places_of s) c.requires.0), s.table.places.ok.0)
 
-pub invariant-of-self : goal.invariant-of-self
-invariant-of-self c =
+pub invariant_of-self : goal.invariant_of-self
+invariant_of-self c =
     let s = c.args.self.now in
     let ps = places_of s in
     let t = c.args.tag in
@@ -72,10 +72,10 @@ returns c =
     let p = c.index-place.result.now in
     let at = stands by_tag c.args.tag i ps c.requires.0 in
     let is : p ≡ get_or ps i blank = c.index-place.ensures ∙ get_or_default ps i p blank (stands_within by_tag at) in
-    let n : c.byte-count-n.result ≡ byte_room (get_or ps i blank) = c.byte-count-n.ensures ∙ ap byte_room is in
+    let n : c.byte_count-n.result ≡ byte_room (get_or ps i blank) = c.byte_count-n.ensures ∙ ap byte_room is in
     record {
       mask = ap (λ x. x.mask) (c.remove-done.ensures.value ∙ get_or_default ps i c.remove-done.result blank (stands_within by_tag at));
-      hands = c.hand.ensures ∙ (ap (λ x. take c.byte-count-n.result x.bytes ++ drop c.byte-count-n.result buffer) is ∙ ap (λ k. take k (get_or ps i blank).bytes ++ drop k buffer) n);
+      hands = c.hand.ensures ∙ (ap (λ x. take c.byte_count-n.result x.bytes ++ drop c.byte_count-n.result buffer) is ∙ ap (λ k. take k (get_or ps i blank).bytes ++ drop k buffer) n);
       places = c.remove-done.ensures.items ∙ stands_less at;
       shape = record { size = refl; capacity = refl; named = refl };
     }

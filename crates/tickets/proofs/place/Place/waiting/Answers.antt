@@ -26,4 +26,4 @@ joined given xs base n e x =
     ∙ ap (λ w. take 1024 given ++ drop w base) (sub-zero n ∙ f.1)
 
 pub returns : goal.returns
-returns c = ap (placed c.args.request c.args.kind c.args.mask) (joined c.args.given.now c.copy-from-slice.new.self _ c.min-n.result c.min-n.ensures c.copy-from-slice.ensures.after)
+returns c = ap (placed c.args.request c.args.kind c.args.mask) (joined c.args.given.now c.copy_from_slice.new.self _ c.min-n.result c.min-n.ensures c.copy_from_slice.ensures.after)
