@@ -4,7 +4,7 @@ ghost use Rattle.device.specs.Meaning.{Meaning};
 ghost use Rattle.device.specs.Questions.{tag_at, state_of, byte_count, home_at};
 ghost use Rattle.device.specs.Sound.{Sound};
 ghost use Rattle.device.specs.Submit.{submitted, submit_answer};
-ghost use Rattle.device.specs.Told.{Told, submit as told-submit, turn as told-turn, collect as told-collect};
+ghost use Rattle.device.specs.Told.{Told, submit as told_submit, turn as told_turn, collect as told_collect};
 ghost use Rattle.device.specs.Turns.{Turned};
 
 use crate::interface::{Home, Refusal, Request, State};
@@ -57,13 +57,13 @@ pub trait Device {
         ensures keeps { kept self.old → kept self.new }
         ensures answers { kept self.old → result ≡ submit_answer (meaning self.old) request (length bytes.now) }
         ensures leaves { kept self.old → meaning self.new ≡ submitted (meaning self.old) request bytes.now }
-        ensures did { kept self.old → does self.old (told-submit request bytes.now tick result) self.new };
+        ensures did { kept self.old → does self.old (told_submit request bytes.now tick result) self.new };
 
     /// Readies at least one ticket if any waits, and answers the ticks that it took.
     fn turn(&mut self, tick: u32) -> u32
         ensures keeps { kept self.old → kept self.new }
         ensures turns { kept self.old → Turned (meaning self.old) (meaning self.new) result }
-        ensures did { kept self.old → does self.old (told-turn tick result) self.new };
+        ensures did { kept self.old → does self.old (told_turn tick result) self.new };
 
     /// Answers the mask of a ready ticket, hands a read's bytes over and removes the ticket, or refuses and leaves all as it was.
     fn collect(&mut self, tag: u32, buffer: &mut [u8]) -> Result<u8, Refusal>
@@ -71,5 +71,5 @@ pub trait Device {
         ensures answers { kept self.old → result ≡ collect_answer (meaning self.old) tag (length buffer.old) }
         ensures hands { kept self.old → buffer.new ≡ buffer_after (meaning self.old) tag buffer.old }
         ensures leaves { kept self.old → meaning self.new ≡ collected (meaning self.old) tag (length buffer.old) }
-        ensures did { kept self.old → does self.old (told-collect tag buffer.old result buffer.new) self.new };
+        ensures did { kept self.old → does self.old (told_collect tag buffer.old result buffer.new) self.new };
 }

@@ -3,7 +3,7 @@ ghost use Rattle.std.specs.Prelude.{◌≡◌, ℕ, ◌+◌, ◌-◌, ◌*◌, �
 ghost use Rattle.device.specs.Meaning.{longest_run, run_bytes};
 ghost use Rattle.queue.specs.Runs.{pasted};
 ghost use Rattle.queue.specs.Serve.{Servable};
-ghost use Rattle.elevator.specs.Service.{at_byte, fits_in, leaves, gathered_from, handed as handed-place, handed_out, laid_out, Serviced};
+ghost use Rattle.elevator.specs.Service.{at_byte, fits_in, leaves, gathered_from, handed as handed_place, handed_out, laid_out, Serviced};
 
 use device::{Device, Kind, RUN_BYTES, SECTOR};
 use queue::serve_below;
@@ -58,7 +58,7 @@ fn mask_part(mask: u8, offset: u32, count: u32) -> u8
 fn hand(place: &mut Place, begin: u32, mask: u8, bytes: &[u8])
     requires fits { fits_in begin place.old ≡ true }
     requires whole { length bytes.now ≡ run_bytes }
-    ensures { place.new ≡ handed-place begin mask bytes.now place.old }
+    ensures { place.new ≡ handed_place begin mask bytes.now place.old }
 {
     let offset = place.first - begin;
     let at = offset as usize * SECTOR;

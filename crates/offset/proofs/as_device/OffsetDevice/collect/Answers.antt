@@ -1,5 +1,5 @@
 use Rattle.std.proofs.Common.{◌≡◌, length, Ok, Err, sym, refl, ap, ◌∙◌, subst}
-use Rattle.device.specs.Told.{collect as told-collect}
+use Rattle.device.specs.Told.{collect as told_collect}
 use Rattle.offset.specs.Means.{Within, over}
 use Rattle.offset.proofs.OffsetCalls.{collects, refused_same, height_collected}
 use Rattle.offset.proofs.as_device.OffsetDevice.collect.Goals as goal
@@ -15,7 +15,7 @@ returns-in-Ok g c =
       answers = λ k. f.ok c.in-Ok.mask (sym c.in-Ok.is ∙ e.answers k.0);
       hands = λ k. e.hands k.0 ∙ f.hands;
       leaves = λ k. ap (over d.base d.most d.closed) (e.leaves k.0) ∙ f.leaves;
-      did = λ k. subst (λ r. g.D.Device.does d.lower (told-collect c.args.tag c.args.buffer.now r c.collect.new.buffer) c.collect.new.self) c.in-Ok.is (e.did k.0);
+      did = λ k. subst (λ r. g.D.Device.does d.lower (told_collect c.args.tag c.args.buffer.now r c.collect.new.buffer) c.collect.new.self) c.in-Ok.is (e.did k.0);
     }
 
 pub returns-in-Err : goal.returns-in-Err

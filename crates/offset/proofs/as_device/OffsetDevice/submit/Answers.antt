@@ -1,6 +1,6 @@
 use Rattle.std.proofs.Common.{◌≡◌, length, Ok, Err, sym, refl, ap, ◌∙◌, subst}
 use Rattle.device.specs.Submit.{form}
-use Rattle.device.specs.Told.{submit as told-submit}
+use Rattle.device.specs.Told.{submit as told_submit}
 use Rattle.offset.specs.Means.{Within, over}
 use Rattle.offset.proofs.OffsetCalls.{Submits, submits, refused_same, height_submitted}
 use Rattle.offset.proofs.as_device.OffsetDevice.submit.Goals as goal
@@ -19,7 +19,7 @@ returns-in-Ok-submit g c =
       keeps = λ k. (e.keeps k.0, subst (Within d.base d.most d.closed) (sym (e.leaves k.0)) ((f k.0).within k.1));
       answers = λ k. (f k.0).ok c.in-Ok-submit.field-0 (sym c.in-Ok-submit.is ∙ e.answers k.0);
       leaves = λ k. ap (over d.base d.most d.closed) (e.leaves k.0) ∙ (f k.0).leaves;
-      did = λ k. (record { tag = q.tag; kind = q.kind; first = c.lowered.result; count = q.count }, subst (λ r. g.D.Device.does d.lower (told-submit (record { tag = q.tag; kind = q.kind; first = c.lowered.result; count = q.count }) row c.args.tick r) c.submit.new.self) c.in-Ok-submit.is (e.did k.0));
+      did = λ k. (record { tag = q.tag; kind = q.kind; first = c.lowered.result; count = q.count }, subst (λ r. g.D.Device.does d.lower (told_submit (record { tag = q.tag; kind = q.kind; first = c.lowered.result; count = q.count }) row c.args.tick r) c.submit.new.self) c.in-Ok-submit.is (e.did k.0));
     }
 
 pub returns-in-Err-submit : goal.returns-in-Err-submit

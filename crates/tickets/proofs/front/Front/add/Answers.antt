@@ -31,27 +31,19 @@ invariant_of-self c =
     let items : vec_items v ≡ ps ++ place ∷ [] = c.push_reserved.ensures.items in
     let made = c.waiting-place.ensures ∙ accepted_place s.size (names s.named) q k c.mask-mask.result d a.0 c.mask-mask.ensures in
     let ne = eqb-false (length ps) s.capacity a.2 in
-    let lt : length ps < s.capacity = omega (arith, ne, s.within) in (
-      s.small,
-      (
-        s.most,
-        (
-          omega (arith, c.push_reserved.ensures.capacity, s.room),
-          (
-            omega (arith, c.push_reserved.ensures.len, v.ok.0, s.table.places.ok.0, lt),
-            (
-              ap apart items ∙ apart_push ps place s.apart (ap (λ p. has_tag p.tag ps) made ∙ absent_has q.tag ps a.1),
-              (
-                ap (all_well s.size (names s.named)) items
-                    ∙ well_push s.size (names s.named) ps place s.well
-                    (ap (well s.size (names s.named)) made ∙ fresh_well s.size (names s.named) q k _ d a.0 refl),
-                (ap in_turn items ∙ in_turn_push ps place s.turns (ap (λ p. p.ready) made), tt),
-              ),
-            ),
-          ),
-        ),
-      ),
-    )
+    let lt : length ps < s.capacity = omega (arith, ne, s.within) in
+    record {
+      small = s.small;
+      most = s.most;
+      room = omega (arith, c.push_reserved.ensures.capacity, s.room);
+      within = omega (arith, c.push_reserved.ensures.len, v.ok.0, s.table.places.ok.0, lt);
+      apart = ap apart items ∙ apart_push ps place s.apart (ap (λ p. has_tag p.tag ps) made ∙ absent_has q.tag ps a.1);
+      well =
+        ap (all_well s.size (names s.named)) items
+        ∙ well_push s.size (names s.named) ps place s.well
+        (ap (well s.size (names s.named)) made ∙ fresh_well s.size (names s.named) q k _ d a.0 refl);
+      turns = ap in_turn items ∙ in_turn_push ps place s.turns (ap (λ p. p.ready) made);
+    }
 
 pub returns : goal.returns
 returns c =

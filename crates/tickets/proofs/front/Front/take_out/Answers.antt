@@ -43,25 +43,16 @@ invariant_of-self c =
     let t = c.args.tag in
     let v = c.remove-done.new.self in
     let at = stands by_tag t c.args.i ps c.requires.0 in
-    let items : vec_items v ≡ less t ps = c.remove-done.ensures.items ∙ stands_less at in (
-      s.small,
-      (
-        s.most,
-        (
-          omega (arith, c.remove-done.ensures.capacity, s.room),
-          (
-            omega (arith, ap length items, length_less at, s.within),
-            (
-              ap apart items ∙ apart_less t ps s.apart,
-              (
-                ap (all_well s.size (names s.named)) items ∙ well_less s.size (names s.named) t ps s.well,
-                (ap in_turn items ∙ in_turn_less t ps s.turns, tt),
-              ),
-            ),
-          ),
-        ),
-      ),
-    )
+    let items : vec_items v ≡ less t ps = c.remove-done.ensures.items ∙ stands_less at in
+    record {
+      small = s.small;
+      most = s.most;
+      room = omega (arith, c.remove-done.ensures.capacity, s.room);
+      within = omega (arith, ap length items, length_less at, s.within);
+      apart = ap apart items ∙ apart_less t ps s.apart;
+      well = ap (all_well s.size (names s.named)) items ∙ well_less s.size (names s.named) t ps s.well;
+      turns = ap in_turn items ∙ in_turn_less t ps s.turns;
+    }
 
 pub returns : goal.returns
 returns c =
