@@ -4,10 +4,10 @@ use Rattle.drive.specs.Buffer.{all_lie}
 use Rattle.drive.proofs.Keeping.{run_most, run_lie, length_run_out}
 use Rattle.drive.proofs.Steps.{skip_in, skip_out, more_in, more_out}
 use Rattle.drive.proofs.buffer.bring_run.Goals as goal
-use Rattle.drive.proofs.buffer.bring_run.Goals.{then-not-is-named, else-not-is-named}
+use Rattle.drive.proofs.buffer.bring_run.Goals.{then-not-is_named, else-not-is_named}
 
-pub bring-in-requires : goal.bring-in-requires
-bring-in-requires c =
+pub bring_in-requires : goal.bring_in-requires
+bring_in-requires c =
     let named = c.args.named.now in
     let first = c.args.first in
     let i = c.loop-i.i in
@@ -37,15 +37,15 @@ loop-i-preserved c =
     let row' = c.loop-i.memory in
     let a = c.loop-i.invariant.0 in
     let b = c.loop-i.invariant.1 in
-    elim c.if-not-is-named.branch [
-      | then-not-is-named w ↦ (
-        ap vec_items w.entries-is ∙ more_in named first i bytes es es' row row' a b (sym w.if-not-is-named.ensures) _ w.bring-in.ensures.entries,
-        w.memory-is ∙ more_out named first i bytes es es' row row' a b (sym w.if-not-is-named.ensures) _ w.bring-in.ensures.memory,
-        ap vec_capacity w.entries-is ∙ (w.bring-in.ensures.capacity ∙ c.loop-i.invariant.2),
+    elim c.if-not-is_named.branch [
+      | then-not-is_named w ↦ (
+        ap vec_items w.entries-is ∙ more_in named first i bytes es es' row row' a b (sym w.if-not-is_named.ensures) _ w.bring_in.ensures.entries,
+        w.memory-is ∙ more_out named first i bytes es es' row row' a b (sym w.if-not-is_named.ensures) _ w.bring_in.ensures.memory,
+        ap vec_capacity w.entries-is ∙ (w.bring_in.ensures.capacity ∙ c.loop-i.invariant.2),
       )
-      | else-not-is-named w ↦ (
-        ap vec_items w.entries-is ∙ skip_in named first i bytes es es' row row' a b (sym w.if-not-is-named.ensures),
-        w.memory-is ∙ skip_out named first i bytes es es' row row' a b (sym w.if-not-is-named.ensures),
+      | else-not-is_named w ↦ (
+        ap vec_items w.entries-is ∙ skip_in named first i bytes es es' row row' a b (sym w.if-not-is_named.ensures),
+        w.memory-is ∙ skip_out named first i bytes es es' row row' a b (sym w.if-not-is_named.ensures),
         ap vec_capacity w.entries-is ∙ c.loop-i.invariant.2,
       )
     ]

@@ -11,8 +11,8 @@ first-put : (named : List ℕ) (es : List Entry) (row : List ℕ) (p : Entry) �
 first-put named [] row p lt is = absurd (omega arith)
 first-put named (e ∷ es) row p lt is = ap (λ z. put_sector named z.sector z.bytes row) is
 
-pub write-sector-requires : goal.write-sector-requires
-write-sector-requires c =
+pub write_sector-requires : goal.write_sector-requires
+write_sector-requires c =
     let v = c.args.entries.now in
     let p = c.remove-oldest.result in
     let lt : 0 < length (vec_items v) = omega (arith, v.ok.0, c.if-len-eq-BUFFERED.true) in
@@ -30,7 +30,7 @@ returns-then-len-eq-BUFFERED c =
     let lt : 0 < length es = omega (arith, v.ok.0, c.if-len-eq-BUFFERED.true) in
     record {
       entries = c.remove-oldest.ensures.items ∙ (removed_younger es ∙ sym (cond-true (full es) (younger es) es f));
-      memory = c.write-sector.ensures ∙ (first-put c.args.named.now es c.args.memory.now p lt c.remove-oldest.ensures.value
+      memory = c.write_sector.ensures ∙ (first-put c.args.named.now es c.args.memory.now p lt c.remove-oldest.ensures.value
           ∙ sym (cond-true (full es) (put_oldest c.args.named.now es c.args.memory.now) c.args.memory.now f));
       capacity = c.remove-oldest.ensures.capacity;
     }

@@ -6,8 +6,8 @@ use Rattle.drive.proofs.Finding.{lies_at}
 use Rattle.drive.proofs.Steps.{all_more, all_end}
 use Rattle.drive.proofs.buffer.put_all.Goals as goal
 
-pub write-sector-requires : goal.write-sector-requires
-write-sector-requires c =
+pub write_sector-requires : goal.write_sector-requires
+write_sector-requires c =
     let xs = c.deref-oldest-items.result.now in
     let lie : all_lie (length c.args.memory.now) xs ≡ true = ap (all_lie (length c.args.memory.now)) c.deref-oldest-items.ensures.value ∙ c.requires.lie in
     let l = lies_parts (length c.args.memory.now) (get_or xs c.loop-oldest.oldest-index (entry 0 [])) (lies_at (length c.args.memory.now) xs c.loop-oldest.oldest-index (entry 0 []) lie c.loop-oldest-test.true) in
@@ -22,7 +22,7 @@ loop-oldest-preserved c =
     let d = entry 0 [] in
     let lie : all_lie (length c.args.memory.now) xs ≡ true = ap (all_lie (length c.args.memory.now)) c.deref-oldest-items.ensures.value ∙ c.requires.lie in
     let l = lies_parts (length c.args.memory.now) (get_or xs i d) (lies_at (length c.args.memory.now) xs i d lie c.loop-oldest-test.true) in
-    let w = c.write-sector.ensures in (
+    let w = c.write_sector.ensures in (
       ap (put_all named (drop (i + 1) xs)) w ∙ (sym (all_more named xs i d row c.loop-oldest-test.true) ∙ c.loop-oldest.invariant.0),
       ap length w ∙ (length_sector named (get_or xs i d).sector (get_or xs i d).bytes row l.1 (omega (arith, l.0, c.loop-oldest.invariant.1)) ∙ c.loop-oldest.invariant.1),
     )

@@ -14,10 +14,10 @@ pub returns-in-Some : goal.returns-in-Some
 returns-in-Some c =
     let es = vec_items c.args.entries.now in
     let st = at_sector c.args.sector c.in-Some.i es c.find.result c.find.ensures c.in-Some.is in
-    c.copy-from-slice.ensures.after
+    c.copy_from_slice.ensures.after
     ∙ (ap (λ z. z.bytes) c.index.ensures ∙ stands_bytes st c.index.result.now (seen c.args.named.now c.args.memory.now))
 
 pub returns-in-None : goal.returns-in-None
 returns-in-None c =
-    c.read-sector.ensures
+    c.read_sector.ensures
     ∙ sym (absent_bytes c.args.sector (vec_items c.args.entries.now) c.find.result c.find.ensures c.in-None.is (seen c.args.named.now c.args.memory.now))

@@ -9,7 +9,7 @@ pub loop-i-preserved : goal.loop-i-preserved
 loop-i-preserved c =
     let es = vec_items c.args.entries.now in
     let below = seen c.args.named.now c.args.memory.now in
-    read_more (buffered es below) c.args.first c.loop-i.i c.loop-i.into c.args.into.now c.read-one.new.into
+    read_more (buffered es below) c.args.first c.loop-i.i c.loop-i.into c.args.into.now c.read_one.new.into
     (length_bytes _ c.args.first c.loop-i.i
     (λ s lt. buffered_length (length c.args.memory.now) es below s c.requires.lie (length_seen c.args.named.now c.args.memory.now s (omega (arith, c.requires.inside)))))
-    c.loop-i.invariant c.read-one.ensures
+    c.loop-i.invariant c.read_one.ensures

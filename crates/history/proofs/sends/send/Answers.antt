@@ -7,8 +7,8 @@ use Rattle.history.proofs.sends.send.Goals as goal
 -- what a collect left in the copy of the buffer is what the log gets
 pub returns-in_ok-buffer-in-Collect : goal.returns-in_ok-buffer-in-Collect
 returns-in_ok-buffer-in-Collect g c =
-    let entry : c.as_mut_slice.result.now ≡ c.in-Collect.given.items = c.as_mut_slice.ensures.value ∙ c.in_ok-buffer.ensures.items ∙ c.as_slice-in-Collect.ensures.value in
-    let after = with_items_is c.in_ok-buffer.buffer c.collect-answer.new.buffer (c.collect-answer.auto.buffer ∙ c.as_mut_slice.ensures.len) in
+    let entry : c.as_mut_slice.result.now ≡ c.in-Collect.given.items = c.as_mut_slice.ensures.value ∙ c.in_ok-buffer-in-Collect.ensures.items ∙ c.as_slice-in-Collect.ensures.value in
+    let after = with_items_is c.in_ok-buffer-in-Collect.buffer c.collect-answer.new.buffer (c.collect-answer.auto.buffer ∙ c.as_mut_slice.ensures.len) in
     record {
       keeps = c.collect-answer.ensures.keeps;
       sends = λ k. (

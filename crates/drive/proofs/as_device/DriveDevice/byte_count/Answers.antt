@@ -7,13 +7,13 @@ use Rattle.drive.specs.SoundFacts.{kept_of}
 use Rattle.drive.specs.Buffer.{buffered}
 use Rattle.drive.proofs.as_device.DriveDevice.byte_count.Goals as goal
 
-pub overflow-cast-result : goal.overflow-cast-result
-overflow-cast-result c =
+pub overflow_cast-result : goal.overflow_cast-result
+overflow_cast-result c =
     let w = c.args.self.now.works in
     let f = w.front in
     let es = vec_items w.entries in
     let le = count_fits f.size (names f.named) (places_of f) c.args.tag f.well in
-    omega (arith, le, c.byte-count.ensures)
+    omega (arith, le, c.byte_count.ensures)
 
 pub returns : goal.returns
 returns c h =
@@ -22,4 +22,4 @@ returns c h =
     let es = vec_items w.entries in
     let ps = places_of f in
     let row = c.args.self.now.bytes.now in
-    c.byte-count.ensures ∙ count_same f.size f.capacity f.named ps (buffered es (shown f.size f.named row)) (shown f.size f.named row) (kept_of w row h) c.args.tag
+    c.byte_count.ensures ∙ count_same f.size f.capacity f.named ps (buffered es (shown f.size f.named row)) (shown f.size f.named row) (kept_of w row h) c.args.tag

@@ -12,4 +12,4 @@ returns c h =
     let es = vec_items w.entries in
     let ps = places_of f in
     let row = c.args.self.now.bytes.now in
-    omega (arith, c.open-tickets.ensures, over.length_over (bad_of f.size f.named) ps (buffered es (shown f.size f.named row)))
+    omega (arith, c.open_tickets.ensures, over.length_over (bad_of f.size f.named) ps (buffered es (shown f.size f.named row)))

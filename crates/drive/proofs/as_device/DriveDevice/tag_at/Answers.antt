@@ -12,4 +12,4 @@ returns c h =
     let es = vec_items w.entries in
     let ps = places_of f in
     let row = c.args.self.now.bytes.now in
-    c.tag-at.ensures ∙ sym (over.tag_over (bad_of f.size f.named) c.args.i ps (buffered es (shown f.size f.named row)))
+    c.tag_at.ensures ∙ sym (over.tag_over (bad_of f.size f.named) c.args.i ps (buffered es (shown f.size f.named row)))

@@ -9,4 +9,4 @@ returns c h =
     let f = c.args.self.now.front in
     let ps = places_of f in
     let row = c.args.self.now.bytes.now in
-    c.tag-at.ensures ∙ sym (over.tag_over (bad_of f.size f.named) c.args.i ps (shown f.size f.named row))
+    c.tag_at.ensures ∙ sym (over.tag_over (bad_of f.size f.named) c.args.i ps (shown f.size f.named row))
