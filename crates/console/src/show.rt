@@ -2,13 +2,12 @@
 use crate::script::Line;
 use device::{Fault, Home, Refusal, State};
 use history::{Event, OpenTicket};
-use std::fmt;
-use std::fmt::Write;
+use std::alloc::AllocError;
 
 /// Bytes, one run of equal ones after the other.
-pub(crate) fn show_bytes(out: &mut String, bytes: &[u8]) -> fmt::Result {
+pub(crate) fn show_bytes(out: &mut String, bytes: &[u8]) -> Result<(), AllocError> {
     let Some(first) = bytes.first() else {
-        return out.write_str("none");
+        return out.push_str("none");
     };
     let mut value = *first;
     let mut count = 0usize;
@@ -24,16 +23,20 @@ pub(crate) fn show_bytes(out: &mut String, bytes: &[u8]) -> fmt::Result {
     write!(out, "{value}x{count}")
 }
 
-fn show_refusal(out: &mut String, refusal: Refusal) -> fmt::Result {
+fn show_refusal(out: &mut String, refusal: Refusal) -> Result<(), AllocError> {
     let number = refusal.cause.number();
     let height = refusal.height;
     write!(out, "refused {number} at height {height}")
 }
 
-fn show_submitted(out: &mut String, tag: u32, answer: Result<(), Refusal>) -> fmt::Result {
+fn show_submitted(
+    out: &mut String,
+    tag: u32,
+    answer: Result<(), Refusal>,
+) -> Result<(), AllocError> {
     write!(out, "submit {tag}: ")?;
     match answer {
-        Ok(()) => out.write_str("accepted"),
+        Ok(()) => out.push_str("accepted"),
         Err(refusal) => show_refusal(out, refusal),
     }
 }
@@ -43,7 +46,7 @@ fn show_collected(
     tag: u32,
     answer: Result<u8, Refusal>,
     buffer: &[u8],
-) -> fmt::Result {
+) -> Result<(), AllocError> {
     write!(out, "collect {tag}: ")?;
     match answer {
         Ok(mask) => {
@@ -54,14 +57,14 @@ fn show_collected(
     }
 }
 
-fn show_open(out: &mut String, tickets: &[OpenTicket]) -> fmt::Result {
-    out.write_str("open: ")?;
+fn show_open(out: &mut String, tickets: &[OpenTicket]) -> Result<(), AllocError> {
+    out.push_str("open: ")?;
     if tickets.is_empty() {
-        return out.write_str("none");
+        return out.push_str("none");
     }
     for (i, ticket) in tickets.iter().enumerate() {
         if i > 0 {
-            out.write_str(", ")?;
+            out.push_str(", ")?;
         }
         let tag = ticket.tag;
         let state = match ticket.state {
@@ -74,26 +77,26 @@ fn show_open(out: &mut String, tickets: &[OpenTicket]) -> fmt::Result {
     Ok(())
 }
 
-fn show_home(out: &mut String, sector: u32, home: Option<Home>) -> fmt::Result {
+fn show_home(out: &mut String, sector: u32, home: Option<Home>) -> Result<(), AllocError> {
     write!(out, "home {sector}: ")?;
     match home {
         Some(Home { height, sector }) => write!(out, "height {height}, sector {sector}"),
-        None => out.write_str("none"),
+        None => out.push_str("none"),
     }
 }
 
-fn show_fault(out: &mut String, fault: Option<Fault>) -> fmt::Result {
+fn show_fault(out: &mut String, fault: Option<Fault>) -> Result<(), AllocError> {
     let Some(Fault { lowest, bad }) = fault else {
-        return out.write_str("fault: none");
+        return out.push_str("fault: none");
     };
     write!(out, "fault: {bad} bad, first ")?;
     match lowest {
         Some(Home { height, sector }) => write!(out, "at height {height}, sector {sector}"),
-        None => out.write_str("beyond the end"),
+        None => out.push_str("beyond the end"),
     }
 }
 
-fn show_event(out: &mut String, event: &Event) -> fmt::Result {
+fn show_event(out: &mut String, event: &Event) -> Result<(), AllocError> {
     match event {
         Event::Submitted {
             request,
@@ -114,7 +117,11 @@ fn show_event(out: &mut String, event: &Event) -> fmt::Result {
 }
 
 /// The answers and the complaints, in the order of the script's lines.
-pub(crate) fn show_lines(out: &mut String, lines: &[Line], log: &[Event]) -> fmt::Result {
+pub(crate) fn show_lines(
+    out: &mut String,
+    lines: &[Line],
+    log: &[Event],
+) -> Result<(), AllocError> {
     let mut next = 0usize;
     for line in lines {
         match line {
@@ -129,13 +136,18 @@ pub(crate) fn show_lines(out: &mut String, lines: &[Line], log: &[Event]) -> fmt
                 write!(out, "line {number}: {text}")?;
             }
         }
-        out.write_str("\n")?;
+        out.push_str("\n")?;
     }
     Ok(())
 }
 
 /// The shape of the stack.
-pub(crate) fn show_stack(out: &mut String, size: u32, capacity: u32, height: u8) -> fmt::Result {
+pub(crate) fn show_stack(
+    out: &mut String,
+    size: u32,
+    capacity: u32,
+    height: u8,
+) -> Result<(), AllocError> {
     writeln!(
         out,
         "stack: size {size}, capacity {capacity}, height {height}"
@@ -143,8 +155,8 @@ pub(crate) fn show_stack(out: &mut String, size: u32, capacity: u32, height: u8)
 }
 
 /// A bottom memory, whole.
-pub(crate) fn show_medium(out: &mut String, number: usize, bytes: &[u8]) -> fmt::Result {
+pub(crate) fn show_medium(out: &mut String, number: usize, bytes: &[u8]) -> Result<(), AllocError> {
     write!(out, "medium {number}: ")?;
     show_bytes(out, bytes)?;
-    out.write_str("\n")
+    out.push_str("\n")
 }
