@@ -1,8 +1,8 @@
 -- Facts on turns that hold of every device.
-use Rattle.std.proofs.Common.{◌≡◌, ℕ, zero, suc, ◌+◌, ◌<◌, ◌≤◌, Bool, true, false, cond, not, ◌&&◌, ◌||◌, List, [], ◌∷◌, ◌++◌, sym, refl, ap, ◌∙◌, subst, ap₂, arith}
+use Rattle.std.proofs.Common.{◌≡◌, true, List, [], ◌∷◌, ◌++◌, refl, arith}
 use Rattle.std.proofs.lemmas.Bool.{both_ways}
-use Rattle.device.specs.Meaning.{Meaning, Ticket, Contents, is_flush}
-use Rattle.device.specs.Turns.{Turned, SameShape, Readied, Flushed, waiting, made_ready, flush_order, open_write_at, waiting_write_at}
+use Rattle.device.specs.Meaning.{Meaning, Ticket, Contents}
+use Rattle.device.specs.Turns.{Turned, SameShape, Readied, Flushed, waiting, made_ready, flush_order}
 use Rattle.device.specs.Sound.{Each}
 
 pub same_refl : (m : Meaning) → SameShape m m

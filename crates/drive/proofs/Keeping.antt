@@ -2,13 +2,13 @@
 use Rattle.std.proofs.Common.{◌≡◌, ℕ, zero, suc, ◌+◌, ◌*◌, ◌<◌, ◌≤◌, true, false, cond, not, ◌&&◌, ◌||◌, eqb, leb, List, [], ◌∷◌, ◌++◌, length, sym, refl, ap, ◌∙◌, arith}
 use Rattle.std.proofs.lemmas.List.{length-append}
 use Rattle.std.proofs.lemmas.Bool.{and_parts, and_from, or_parts, or_from, not-true, not_from_false, eqb-true, eqb-false, eq-eqb, ne_eqb, le-leb, cond_both}
-use Rattle.device.specs.Meaning.{Contents, part}
+use Rattle.device.specs.Meaning.{part}
 use Rattle.sectors.specs.Memory.{listed, put_sector}
 use Rattle.sectors.proofs.Runs.{length_part}
 use Rattle.sectors.proofs.Parts.{length_sector}
 use Rattle.drive.specs.SoundFacts.{lies_parts}
 use Rattle.drive.specs.declared.buffer.Entry.{Entry}
-use Rattle.drive.specs.Buffer.{entry, stands_in, buffered, renewed, full, younger, put_oldest, eased, brought_in, put_out, brought_run, put_out_run, put_all, lies, all_lie, all_good, single}
+use Rattle.drive.specs.Buffer.{entry, stands_in, renewed, full, younger, put_oldest, eased, brought_in, put_out, brought_run, put_out_run, put_all, lies, all_lie, all_good, single}
 
 -- renewed
 

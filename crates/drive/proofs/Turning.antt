@@ -1,22 +1,21 @@
 -- What a turn of a drive does, over its places, its buffer and its bytes.
-use Rattle.std.proofs.Common.{◌≡◌, ℕ, ◌+◌, ◌-◌, ◌*◌, ◌≤◌, Bool, true, false, cond, not, ◌&&◌, eqb, ltb, leb, ◌⊎◌, List, [], ◌∷◌, length, get_or, Some, None, Option, sym, refl, ap, ◌∙◌, ⊎_elim, arith}
+use Rattle.std.proofs.Common.{◌≡◌, ℕ, ◌+◌, ◌-◌, ◌*◌, ◌≤◌, Bool, true, false, cond, not, ◌&&◌, eqb, ltb, leb, List, [], ◌∷◌, length, get_or, Some, None, Option, sym, refl, ap, ◌∙◌, ⊎_elim, arith}
 use mathlib.Core.Path.{fun_ext}
-use Rattle.std.proofs.lemmas.Bool.{cases_Bool, cond-true, cond-false, and_parts, and_from, and_left, and_right, not_from_false, not-true, ltb-true, lt-ltb, both_ways, ne_eqb}
+use Rattle.std.proofs.lemmas.Bool.{cases_Bool, cond-true, cond-false, and_parts, and_from, and_left, and_right, not_from_false, ltb-true, lt-ltb, both_ways}
 use Rattle.device.specs.declared.interface.Kind.{Kind}
 use Rattle.device.specs.declared.interface.Kind.TheVariants.{Read, Write, Flush}
-use Rattle.device.specs.Meaning.{Meaning, Contents, part, zeros, covers, written, is_write, is_flush}
+use Rattle.device.specs.Meaning.{Contents, part, covers, written, is_write, is_flush}
 use Rattle.device.specs.Turns.{Turned, made_ready}
 use Rattle.sectors.specs.Memory.{listed, names, seen}
 use Rattle.sectors.specs.Shown.{bad_of, shown}
 use Rattle.sectors.proofs.Runs.{length_seen}
-use Rattle.sectors.proofs.Parts.{seen_shown, shown_whole, bad_shown}
+use Rattle.sectors.proofs.Parts.{seen_shown}
 use Rattle.tickets.specs.declared.place.Place.{Place}
 use Rattle.tickets.specs.Places.{first_waiting}
 use Rattle.tickets.specs.Meant.{held, ticket, tickets_over}
 use Rattle.tickets.specs.Oldest.{ready_oldest}
 use Rattle.tickets.proofs.OldestFacts.{oldest_serve, oldest_none}
 use Rattle.tickets.specs.Front.{blank, places_as, served}
-use Rattle.tickets.specs.Device.{meant_over}
 use Rattle.tickets.proofs.Stands.{oldest, oldest_within}
 use Rattle.tickets.proofs.Keeps.{well_at}
 use Rattle.tickets.proofs.FrontFacts as places
@@ -24,7 +23,7 @@ use Rattle.tickets.proofs.FrontFacts.{fits_from}
 use Rattle.tickets.proofs.CallFacts.{Kept, length_held, oldest_ready, turn_idle, turn_serves, served_ticket}
 use Rattle.drive.specs.SoundFacts.{Fits, buffered_length}
 use Rattle.drive.specs.declared.buffer.Entry.{Entry}
-use Rattle.drive.specs.Buffer.{buffered, all_good}
+use Rattle.drive.specs.Buffer.{buffered}
 use Rattle.drive.proofs.Keeping.{lie_more, length_all}
 use Rattle.drive.proofs.Laws.{run_fits, none_fits, all_base, run_base, run_medium, out_long}
 use Rattle.drive.specs.Means.{meant}

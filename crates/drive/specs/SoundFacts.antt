@@ -1,7 +1,7 @@
 -- Lemmas, no definitions to believe: what a drive means is sound. They stand here because the device's ghost member can cite
 -- this crate's lemmas only from specs/.
-use Rattle.std.specs.Prelude.{◌≡◌, ℕ, ◌+◌, ◌*◌, ◌≤◌, Bool, true, false, cond, not, ◌&&◌, List, [], ◌∷◌, length, vec_items, ◌==◌, nat_le, nat_lt, refl}
-use Rattle.std.proofs.Common.{sym, ap, ◌∙◌}
+use Rattle.std.specs.Prelude.{◌≡◌, ℕ, ◌+◌, ◌*◌, ◌≤◌, true, false, not, List, [], ◌∷◌, length, vec_items, ◌==◌, nat_le, nat_lt, refl}
+use Rattle.std.proofs.Common.{ap, ◌∙◌}
 use Rattle.std.proofs.lemmas.Bool.{and_parts, leb-true, eqb-true, not-true, ne_eqb, both_ways, cond-false, cond_both}
 use Rattle.device.specs.Meaning.{Contents, zeros}
 use Rattle.device.specs.Sound.{Sound}

@@ -1,6 +1,6 @@
 -- What a device run dry leaves: the argument for every layer that runs a side dry, stated once.
-use Rattle.std.proofs.Common.{◌≡◌, ℕ, zero, suc, ◌+◌, ◌<◌, ◌≤◌, min, Bool, true, false, cond, not, ◌&&◌, ◌||◌, ◌⊎◌, List, [], ◌∷◌, ◌++◌, length, sym, refl, ap, ◌∙◌, subst, ap₂, inl, inr, ⊎_elim, arith}
-use Rattle.std.proofs.lemmas.Bool.{cases_Bool, both_ways, and_parts, and_left, or_parts, or_from, cond-true, cond-false, not-true, not_from_true, not_from_false}
+use Rattle.std.proofs.Common.{◌≡◌, ℕ, zero, suc, ◌+◌, ◌<◌, ◌≤◌, Bool, true, false, cond, not, ◌&&◌, ◌||◌, ◌⊎◌, List, [], ◌∷◌, length, sym, refl, ap, ◌∙◌, ap₂, inl, inr, ⊎_elim, arith}
+use Rattle.std.proofs.lemmas.Bool.{cases_Bool, both_ways, and_parts, and_left, or_parts, or_from, not-true, not_from_true}
 use Rattle.device.specs.Meaning.{Meaning, Ticket, Contents, is_write, is_flush, covers}
 use Rattle.device.specs.Turns.{Turned, SameShape, Readied, Flushed, waiting, made_ready, none_ready, flush_free, flush_order, open_write_at, waiting_write_at}
 use Rattle.device.proofs.TurnFacts.{same_refl, readied_refl, flushed_refl}

@@ -1,19 +1,18 @@
 -- The disk holds at each good sector the last write accepted, and a row of sectors holds each in its part.
-use Rattle.std.proofs.Common.{◌≡◌, ℕ, zero, suc, ◌+◌, ◌-◌, ◌*◌, ◌<◌, ◌≤◌, Bool, true, false, cond, not, ◌&&◌, ◌||◌, eqb, ltb, leb, ◌⊎◌, List, [], ◌∷◌, ◌++◌, length, take, drop, Some, None, Ok, Err, Option, sym, refl, ap, ◌∙◌, subst, inl, inr, ⊎_elim, append_assoc, arith, length-append, length-drop, length-take}
-use Rattle.std.proofs.lemmas.List.{append-nil, drop_at, take_at, take-append-le, drop-append-le}
-use Rattle.std.proofs.lemmas.Bool.{eqb-true, eqb-false, eq-eqb, ne_eqb, leb-true, ltb-true, and_parts, cases_Bool, cases_lt, true≢false}
+use Rattle.std.proofs.Common.{◌≡◌, ℕ, zero, suc, ◌+◌, ◌-◌, ◌*◌, ◌<◌, ◌≤◌, Bool, true, false, cond, not, ◌&&◌, eqb, ltb, leb, List, ◌++◌, length, take, Some, None, Ok, Option, sym, refl, ap, ◌∙◌, subst, ⊎_elim, append_assoc, arith, length-append, length-drop, length-take}
+use Rattle.std.proofs.lemmas.List.{drop_at, take_at}
+use Rattle.std.proofs.lemmas.Bool.{eqb-true, leb-true, ltb-true, and_parts, cases_lt}
 use Rattle.device.specs.Told.{Told}
 use Rattle.device.specs.Told as told
 use Rattle.device.specs.declared.interface.Kind.{Kind}
 use Rattle.device.specs.declared.interface.Kind.TheVariants.{Read, Write, Flush}
 use Rattle.device.specs.declared.interface.Request.{Request}
-use Rattle.device.specs.Meaning.{Meaning, Ticket, Contents, part, bytes_of, covers, written}
+use Rattle.device.specs.Meaning.{Meaning, Contents, part, bytes_of, covers}
 use Rattle.device.specs.Numbers.{kind_of, kind_number}
 use Rattle.device.specs.Submit.{disk_after, due_length}
-use Rattle.device.specs.Turns.{Turned}
 use Rattle.history.specs.History.{writes, later, or_else, last_write, last_written}
 use Rattle.history.specs.Steps.{Ran, still, next}
-use Rattle.history.proofs.Change.{Change, ignored, turned, takes, gives, changes, Fit}
+use Rattle.history.proofs.Change.{Change, ignored, turned, takes, gives, changes}
 
 pub record Shape (m m' : Meaning) : Type 0 where
   pub bad : m'.bad ≡ m.bad

@@ -1,7 +1,7 @@
 -- Facts about lists of tickets.
-use Rattle.std.proofs.Common.{◌≡◌, ℕ, zero, suc, ◌+◌, ◌<◌, ◌≤◌, Bool, true, false, cond, not, ◌&&◌, ◌||◌, eqb, ltb, leb, ◌⊎◌, List, [], ◌∷◌, ◌++◌, length, Some, None, Option, sym, refl, ap, ◌∙◌, subst, inl, inr, arith}
-use Rattle.std.proofs.lemmas.Bool.{eqb-true, eqb-false, eq-eqb, ne_eqb, or_parts, or_from, and_from, not_from_false}
-use Rattle.device.specs.Meaning.{Meaning, Ticket}
+use Rattle.std.proofs.Common.{◌≡◌, ℕ, ◌+◌, ◌≤◌, Bool, true, false, cond, not, ◌||◌, eqb, List, [], ◌∷◌, ◌++◌, Some, None, Option, sym, refl, ap, ◌∙◌, arith}
+use Rattle.std.proofs.lemmas.Bool.{eqb-true, eqb-false, ne_eqb, or_parts, or_from, and_from, not_from_false}
+use Rattle.device.specs.Meaning.{Ticket}
 use Rattle.device.specs.Submit.{tag_is_open}
 use Rattle.device.specs.Collect.{found, without}
 use Rattle.device.specs.Turns.{waiting, Readied, none, stays, turns, made_ready}

@@ -3,7 +3,7 @@ use Rattle.std.proofs.Common.{◌≡◌, ℕ, ◌≤◌, List, [], ◌∷◌, �
 use Rattle.std.proofs.lemmas.List.{append-nil}
 use Rattle.std.specs.declared.alloc.Global.{Global}
 use Rattle.device.specs.Meaning.{Meaning}
-use Rattle.device.specs.Told.{Told, submit, turn, collect}
+use Rattle.device.specs.Told.{Told}
 use Rattle.device.specs.Turns.{waiting}
 use Rattle.history.specs.declared.call.Event.{Event}
 use Rattle.history.specs.declared.call.Event.TheVariants as events
@@ -12,7 +12,7 @@ use Rattle.history.specs.declared.call.OpenTicket.{OpenTicket}
 use Rattle.history.specs.History.{turns, NoneAccepted, unanswered}
 use Rattle.history.specs.Steps.{Ran, still, next}
 use Rattle.history.specs.Questions.{open_list, tags_in, waiting_in}
-use Rattle.history.specs.Log.{call_of, calls_of, told, history_of, Step, Went, stays, goes, Shown, Heard, SentAll, SentSome}
+use Rattle.history.specs.Log.{call_of, calls_of, told, history_of, Step, Went, stays, goes, Heard, SentAll, SentSome}
 use Rattle.history.proofs.Disk.{Whole}
 use Rattle.history.proofs.Named.{named_from_none, none_waits}
 use Rattle.history.proofs.OpenFacts.{tags_open, waiting_open}

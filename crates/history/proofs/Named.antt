@@ -1,18 +1,18 @@
 -- The open tickets are the accepted ones not answered; and tickets stop waiting.
-use Rattle.std.proofs.Common.{◌≡◌, ℕ, zero, suc, ◌+◌, ◌-◌, ◌<◌, ◌≤◌, Bool, true, false, cond, not, ◌&&◌, ◌||◌, eqb, ltb, leb, ◌⊎◌, List, [], ◌∷◌, ◌++◌, Ok, Err, sym, refl, ap, ◌∙◌, subst, inl, inr, ⊎_elim, append_assoc, arith}
+use Rattle.std.proofs.Common.{◌≡◌, ℕ, ◌+◌, ◌-◌, ◌<◌, ◌≤◌, Bool, true, false, cond, not, ◌&&◌, ◌||◌, eqb, List, [], ◌∷◌, ◌++◌, Ok, Err, sym, refl, ap, ◌∙◌, subst, ⊎_elim, append_assoc, arith}
 use Rattle.std.proofs.lemmas.List.{append-nil}
-use Rattle.std.proofs.lemmas.Bool.{eqb-true, eqb-false, eq-eqb, ne_eqb, or_parts, or_from, or_left, or_right, cases_Bool, cases_lt, true≢false}
+use Rattle.std.proofs.lemmas.Bool.{eqb-true, eqb-false, eq-eqb, ne_eqb, or_left, or_right, cases_lt, true≢false}
 use Rattle.device.specs.Told.{Told}
 use Rattle.device.specs.Told as told
 use Rattle.device.specs.Meaning.{Meaning, Ticket}
 use Rattle.device.specs.Submit.{tag_is_open, ticket_of}
-use Rattle.device.specs.Collect.{found, without}
+use Rattle.device.specs.Collect.{without}
 use Rattle.device.specs.Turns.{waiting, Readied, none, stays, Turned}
 use Rattle.device.specs.Turns as turning
 use Rattle.history.specs.History.{accepts, answers, turns, is_turn, NoneAccepted, answered_in, opens, unanswered}
 use Rattle.history.specs.Steps.{Ran, still, next}
 use Rattle.history.specs.Promise.{tags}
-use Rattle.history.proofs.Lists.{Once, tags_readied, once_readied, once_push, once_without, waiting_without, open_readied}
+use Rattle.history.proofs.Lists.{Once, once_readied, once_push, once_without, waiting_without}
 use Rattle.history.proofs.Change.{Change, ignored, turned, takes, gives, changes}
 
 -- no tag comes twice

@@ -1,17 +1,16 @@
 -- What a device that was sent a list of calls keeps.
-use Rattle.std.proofs.Common.{◌≡◌, ℕ, zero, suc, ◌+◌, ◌-◌, ◌*◌, ◌<◌, ◌≤◌, Bool, true, false, cond, not, ◌&&◌, ◌||◌, eqb, ltb, leb, List, [], ◌∷◌, ◌++◌, length, take, drop, Some, None, Ok, Err, Option, sym, refl, ap, ◌∙◌, subst, append_assoc, arith}
-use Rattle.std.proofs.lemmas.Bool.{eqb-true, eqb-false, eq-eqb, true≢false}
+use Rattle.std.proofs.Common.{◌≡◌, ℕ, ◌+◌, Bool, true, false, eqb, List, [], ◌∷◌, ◌++◌, length, drop, Some, None, Ok, Option, sym, refl, ap, ◌∙◌, subst, arith}
+use Rattle.std.proofs.lemmas.Bool.{eqb-true, eq-eqb, true≢false}
 use Rattle.device.specs.Told.{Told}
 use Rattle.device.specs.Told as told
 use Rattle.device.specs.declared.interface.Kind.{Kind}
-use Rattle.device.specs.declared.interface.Kind.TheVariants.{Read, Write, Flush}
+use Rattle.device.specs.declared.interface.Kind.TheVariants.{Read}
 use Rattle.device.specs.declared.interface.Request.{Request}
-use Rattle.device.specs.Meaning.{Meaning, Ticket, Contents, part, bytes_of, mask_of}
+use Rattle.device.specs.Meaning.{Meaning, Ticket, part, bytes_of, mask_of}
 use Rattle.device.specs.Numbers.{kind_of}
 use Rattle.device.specs.Submit.{ticket_of, due_bytes, tag_is_open}
 use Rattle.device.specs.Collect.{found, without}
-use Rattle.device.specs.Turns.{Turned, waiting}
-use Rattle.history.specs.History.{accepts, answers, NotAccepted, NotAnswered, last_written, NoneAccepted, turns, unanswered}
+use Rattle.history.specs.History.{accepts, answers, NotAccepted, NotAnswered}
 use Rattle.history.specs.Steps.{Ran, still, next, Sent}
 use Rattle.history.specs.Promise as stated
 use Rattle.history.specs.Promise.{TicketFor, AcceptedIn, tags}

@@ -1,5 +1,5 @@
 -- A history is a list of submits, turns and collects with their answers, the oldest first. What it says of tickets and writes.
-use Rattle.std.specs.Prelude.{◌≡◌, ℕ, ◌+◌, ◌-◌, Bool, true, false, cond, not, ◌&&◌, ◌||◌, List, [], ◌∷◌, ◌++◌, Some, None, Ok, Err, Option, ◌==◌}
+use Rattle.std.specs.Prelude.{◌≡◌, ℕ, ◌+◌, ◌-◌, Bool, false, cond, not, ◌&&◌, ◌||◌, List, [], ◌∷◌, ◌++◌, Some, None, Ok, Err, Option, ◌==◌}
 use Rattle.device.specs.declared.interface.Kind.TheVariants.{Write}
 use Rattle.device.specs.Told.{Told, submit, turn, collect}
 use Rattle.device.specs.Meaning.{Contents, covers, part}

@@ -1,5 +1,5 @@
 -- A log of the calls that were sent to a device: how it is tied to the device, and what it promises.
-use Rattle.std.specs.Prelude.{◌≡◌, ℕ, ◌≤◌, List, [], ◌∷◌, ◌++◌, vec_items, Vec}
+use Rattle.std.specs.Prelude.{◌≡◌, ◌≤◌, List, [], ◌∷◌, ◌++◌, vec_items, Vec}
 use Rattle.std.specs.declared.alloc.Global.{Global}
 use Rattle.device.specs.Meaning.{Meaning}
 use Rattle.device.specs.Told.{Told, submit, turn, collect}

@@ -4,7 +4,7 @@ use Rattle.device.specs.declared.interface.Kind.TheVariants.{Read}
 use Rattle.device.specs.declared.interface.Request.{Request}
 use Rattle.device.specs.Meaning.{Meaning, Ticket, Contents, part, mask_of}
 use Rattle.device.specs.Numbers.{kind_number}
-use Rattle.device.specs.Told.{Told, submit, turn, collect}
+use Rattle.device.specs.Told.{Told, submit, collect}
 use Rattle.device.specs.Turns.{waiting}
 use Rattle.device.specs.Sound.{distinct}
 use Rattle.history.specs.History.{turns, NoneAccepted, NotAccepted, NotAnswered, unanswered, last_written}

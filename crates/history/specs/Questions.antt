@@ -1,5 +1,5 @@
 -- The open tickets as a list of tags and states.
-use Rattle.std.specs.Prelude.{ℕ, ◌+◌, cond, List, [], ◌∷◌}
+use Rattle.std.specs.Prelude.{ℕ, ◌+◌, List, [], ◌∷◌}
 use Rattle.device.specs.declared.interface.State.{State}
 use Rattle.device.specs.declared.interface.State.TheVariants as states
 use Rattle.device.specs.Meaning.{Ticket}

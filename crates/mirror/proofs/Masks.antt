@@ -1,15 +1,14 @@
 -- Masks and rows of sectors.
-use Rattle.std.proofs.Common.{◌≡◌, ℕ, zero, suc, ◌+◌, ◌-◌, ◌*◌, ◌/◌, ◌%◌, ◌^◌, ◌<◌, ◌≤◌, min, max, Bool, true, false, cond, not, ◌&&◌, ◌||◌, eqb, ltb, leb, ◌⊎◌, List, [], ◌∷◌, ◌++◌, length, take, drop, sym, refl, ap, ◌∙◌, subst, ap₂, inl, inr, ⊎_elim, add_assoc, mul_assoc, add-one, arith}
-use mathlib.Core.Path.{fun_ext}
+use Rattle.std.proofs.Common.{◌≡◌, ℕ, zero, suc, ◌+◌, ◌-◌, ◌*◌, ◌/◌, ◌%◌, ◌^◌, ◌<◌, ◌≤◌, Bool, true, false, cond, ◌&&◌, eqb, List, ◌++◌, length, take, drop, sym, refl, ap, ◌∙◌, subst, ap₂, ⊎_elim, mul_assoc, add-one, arith}
 use native.Mathlib.Nat.{two-pow-succ, mul-add-mod_self_right}
 use lib.Bits.{bit_and, and_block}
 use borrow.Rule.Slice.PartMut.{put_mid}
-use Rattle.std.proofs.lemmas.List.{length-append, length-take, length-drop, take_at, drop_at, drop-drop, append_assoc, take-append-le, drop-append-le, take-append-drop, take_all}
+use Rattle.std.proofs.lemmas.List.{length-append, length-drop, take_at, drop_at, drop-drop, append_assoc, take-append-le, drop-append-le, take-append-drop, take_all}
 use Rattle.std.proofs.lemmas.Nat.{shr_high, pow-add, field_of}
-use Rattle.std.proofs.lemmas.Bool.{cases_Bool, cond-true, cond-false, cases_lt, both_ways}
+use Rattle.std.proofs.lemmas.Bool.{cond-true, cond-false, cases_lt}
 use Rattle.device.specs.Meaning.{Contents, mask_of, bytes_of, part}
 use Rattle.mirror.specs.Means.{picked, bit, both, either}
-use Rattle.mirror.specs.SoundFacts.{length_part, length_picked, length_either}
+use Rattle.mirror.specs.SoundFacts.{length_picked}
 
 one_bit : Bool → ℕ
 one_bit b = cond b 1 0

@@ -1,9 +1,9 @@
 -- The calls of a mirror, by what its sides do.
-use Rattle.std.proofs.Common.{◌≡◌, ℕ, zero, suc, ◌+◌, ◌-◌, ◌*◌, ◌/◌, ◌^◌, ◌<◌, ◌≤◌, min, max, Bool, true, false, cond, not, ◌&&◌, ◌||◌, eqb, ltb, leb, ◌⊎◌, List, [], ◌∷◌, ◌++◌, length, drop, Some, None, Ok, Err, Option, Result, sym, refl, ap, ◌∙◌, subst, ap₂, inl, inr, ⊎_elim, arith}
+use Rattle.std.proofs.Common.{◌≡◌, ℕ, zero, suc, ◌+◌, ◌-◌, ◌*◌, ◌/◌, ◌≤◌, min, max, Bool, true, false, cond, not, ◌&&◌, ◌||◌, eqb, ltb, List, [], ◌∷◌, ◌++◌, length, drop, Some, None, Ok, Err, Option, Result, sym, refl, ap, ◌∙◌, subst, ap₂, ⊎_elim, arith}
 use mathlib.Core.Path.{fun_ext}
 use lib.Bits.{bit_and}
-use Rattle.std.proofs.lemmas.List.{length-append, drop_at}
-use Rattle.std.proofs.lemmas.Bool.{cases_Bool, cond-true, cond-false, and_parts, and_from, or_parts, ltb-true, ltb-false, leb-true, lt-ltb, le-ltb, eqb-true, eqb-false, eq-eqb, ne_eqb, both_ways}
+use Rattle.std.proofs.lemmas.List.{drop_at}
+use Rattle.std.proofs.lemmas.Bool.{cases_Bool, cond-true, cond-false, ltb-false, lt-ltb, le-ltb, eqb-false, ne_eqb, both_ways}
 use Rattle.device.specs.declared.interface.Kind.{Kind}
 use Rattle.device.specs.declared.interface.Kind.TheVariants.{Read, Write, Flush}
 use Rattle.device.specs.declared.interface.State.{State}
@@ -11,17 +11,15 @@ use Rattle.device.specs.declared.interface.State.TheVariants as states
 use Rattle.device.specs.declared.interface.Cause.{Cause}
 use Rattle.device.specs.declared.interface.Cause.TheVariants as causes
 use Rattle.device.specs.declared.interface.Request.{Request}
-use Rattle.device.specs.declared.interface.Refusal.{Refusal}
-use Rattle.device.specs.Meaning.{Meaning, Ticket, Contents, is_read, is_write, is_flush, covers, mask_of, bytes_of, written, part}
-use Rattle.device.specs.Numbers.{kind_of}
-use Rattle.device.specs.Submit.{fair_count, due_length, form, tag_is_open, admitted_as, admitted, due_bytes, ticket_of, disk_after, accepted, submitted_as, submitted, submit_answer_as, submit_answer}
-use Rattle.device.specs.Meaning.{with_disk, refused_by}
+use Rattle.device.specs.Meaning.{Meaning, Ticket, is_read, covers, mask_of, part}
+use Rattle.device.specs.Submit.{fair_count, form, tag_is_open, admitted_as, admitted, due_bytes, ticket_of, disk_after, accepted, submitted_as, submitted, submit_answer_as, submit_answer}
+use Rattle.device.specs.Meaning.{with_disk}
 use Rattle.device.specs.Collect.{found, without, due_as, due, collect_answer_as, collect_answer, collected_as, collected, buffer_as, buffer_after}
 use Rattle.device.specs.Questions.{tag_at, state_as, state_of, byte_count_as, byte_count}
 use Rattle.device.specs.Sound.{Sound, WellFormed, Each}
 use Rattle.device.proofs.Forms.{form_ok, form_from, form_kind, fair_short}
 use Rattle.mirror.specs.Means.{picked, bit, mixed, both, either, paired, all_paired, mirrored, Alike, Agree, Level, room_due, answered}
-use Rattle.mirror.specs.SoundFacts.{agree_length, length_paired, open_paired, well_paired, length_picked}
+use Rattle.mirror.specs.SoundFacts.{agree_length, length_paired, open_paired, well_paired}
 use Rattle.mirror.proofs.Masks.{mask_both, mask_bit, picked_same, picked_front, picked_bytes}
 
 -- The open ticket of a tag on both sides

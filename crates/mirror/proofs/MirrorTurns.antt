@@ -1,15 +1,11 @@
 -- A turn of a mirror, by its two sides run dry.
-use Rattle.std.proofs.Common.{◌≡◌, ℕ, zero, suc, ◌+◌, ◌<◌, ◌≤◌, min, max, Bool, true, false, cond, not, ◌&&◌, ◌||◌, ◌⊎◌, List, [], ◌∷◌, ◌++◌, length, sym, refl, ap, ◌∙◌, subst, ap₂, inl, inr, ⊎_elim, arith}
-use mathlib.Core.Path.{fun_ext}
+use Rattle.std.proofs.Common.{◌≡◌, ℕ, ◌+◌, min, max, Bool, true, false, cond, not, ◌&&◌, ◌||◌, List, [], ◌∷◌, sym, refl, ap, ◌∙◌, subst, ap₂, ⊎_elim, arith}
 use Rattle.std.proofs.lemmas.Bool.{cases_Bool, both_ways}
-use Rattle.device.specs.declared.interface.Kind.{Kind}
 use Rattle.device.specs.Meaning.{Meaning, Ticket, Contents, is_write, is_flush, covers}
-use Rattle.device.specs.Turns.{Turned, SameShape, Readied, Flushed, waiting, made_ready, none_ready, flush_free, flush_order, open_write_at, waiting_write_at}
-use Rattle.device.specs.Sound.{Sound, Each}
+use Rattle.device.specs.Turns.{Turned, Readied, Flushed, waiting, made_ready, flush_order, open_write_at, waiting_write_at}
 use Rattle.device.proofs.TurnFacts.{idle_turned}
 use Rattle.dry.proofs.DryFacts.{Dried, all_ready_now, made_same}
 use Rattle.mirror.specs.Means.{both, either, paired, all_paired, mirrored, Alike, Agree, Level}
-use Rattle.mirror.specs.SoundFacts.{flush_order_paired}
 
 -- tickets that are all ready
 

@@ -1,14 +1,13 @@
 -- Lemmas, no definitions to believe: a mirror over sound sides is sound. They stand here because the layer's ghost member can
 -- cite this crate's lemmas only from specs/.
-use Rattle.std.specs.Prelude.{◌≡◌, ℕ, zero, suc, ◌+◌, ◌-◌, ◌*◌, ◌^◌, ◌<◌, ◌≤◌, min, max, Bool, true, false, cond, not, ◌&&◌, ◌||◌, ◌⊎◌, List, [], ◌∷◌, ◌++◌, length, ◌==◌, refl}
-use Rattle.std.proofs.Common.{sym, ap, ap₂, subst, ◌∙◌, inl, inr, ⊎_elim, arith}
-use Rattle.std.proofs.Math.Path.{fun_ext}
+use Rattle.std.specs.Prelude.{◌≡◌, ℕ, zero, suc, ◌+◌, ◌*◌, ◌<◌, ◌≤◌, min, Bool, true, false, cond, not, ◌&&◌, ◌||◌, List, [], ◌∷◌, length, ◌==◌, refl}
+use Rattle.std.proofs.Common.{ap, ap₂, ◌∙◌, arith}
 use Rattle.std.proofs.lemmas.List.{length-append, length-take, length-drop}
-use Rattle.std.proofs.lemmas.Bool.{cases_Bool, cond-true, cond-false, cond_both, and_parts, and_from, both_ways}
+use Rattle.std.proofs.lemmas.Bool.{and_parts, both_ways}
 use Rattle.device.specs.declared.interface.Kind.{Kind}
 use Rattle.device.specs.declared.interface.Kind.TheVariants.{Read, Write, Flush}
-use Rattle.device.specs.Meaning.{Meaning, Ticket, Contents, is_read, is_write, is_flush, covers, mask_of, bytes_of, part, zeros}
-use Rattle.device.specs.Submit.{fair_count, tag_is_open}
+use Rattle.device.specs.Meaning.{Meaning, Ticket, is_read, is_flush, part, zeros}
+use Rattle.device.specs.Submit.{tag_is_open}
 use Rattle.device.specs.Turns.{none_ready, flush_free, flush_order}
 use Rattle.device.specs.Sound.{Sound, WellFormed, Each, distinct}
 use Rattle.mirror.specs.Means.{picked, mixed, both, either, paired, all_paired, mirrored, Alike, Agree, Level}

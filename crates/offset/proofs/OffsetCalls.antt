@@ -1,25 +1,24 @@
 -- The calls of an offset, by what the device below does.
-use Rattle.std.proofs.Common.{◌≡◌, ℕ, zero, suc, ◌+◌, ◌-◌, ◌*◌, ◌^◌, ◌<◌, ◌≤◌, min, Bool, true, false, cond, not, ◌&&◌, ◌||◌, eqb, ltb, leb, ◌⊎◌, List, [], ◌∷◌, ◌++◌, length, Some, None, Ok, Err, Option, Result, sym, refl, ap, ◌∙◌, subst, ap₂, inl, inr, ⊎_elim, add_assoc, arith}
+use Rattle.std.proofs.Common.{◌≡◌, ℕ, zero, suc, ◌+◌, ◌-◌, ◌^◌, ◌≤◌, min, Bool, true, false, cond, not, ◌&&◌, ◌||◌, eqb, ltb, leb, List, [], ◌∷◌, ◌++◌, length, Some, None, Ok, Err, Option, Result, sym, refl, ap, ◌∙◌, subst, ap₂, add_assoc, arith}
 use mathlib.Core.Path.{fun_ext}
 use Rattle.std.proofs.lemmas.Bool.Decides.{nat_tests}
-use Rattle.std.proofs.lemmas.Bool.{cases_Bool, cond-true, cond-false, and_parts, and_from, ltb-true, leb-true, lt-ltb, le-ltb, eqb-true, eq-eqb, both_ways}
+use Rattle.std.proofs.lemmas.Bool.{cond-false, and_parts, ltb-true, leb-true, lt-ltb, eqb-true, both_ways}
 use Rattle.device.specs.declared.interface.Kind.{Kind}
 use Rattle.device.specs.declared.interface.Kind.TheVariants.{Read, Write, Flush}
 use Rattle.device.specs.declared.interface.Cause.{Cause}
 use Rattle.device.specs.declared.interface.Cause.TheVariants as causes
 use Rattle.device.specs.declared.interface.Request.{Request}
 use Rattle.device.specs.declared.interface.Refusal.{Refusal}
-use Rattle.device.specs.Meaning.{Meaning, Ticket, Contents, is_read, is_write, is_flush, covers, mask_of, bytes_of, written, part}
-use Rattle.device.specs.Numbers.{kind_of}
-use Rattle.device.specs.Submit.{fair_count, due_length, formed_as, form_as, form, tag_is_open, admitted_as, admitted, due_bytes, ticket_of, disk_after, accepted, submitted_as, submitted, submit_answer_as, submit_answer}
+use Rattle.device.specs.Meaning.{Meaning, Ticket, Contents, is_write, is_flush, covers, mask_of, bytes_of, written, part}
+use Rattle.device.specs.Submit.{fair_count, form, tag_is_open, admitted_as, admitted, due_bytes, ticket_of, disk_after, accepted, submitted_as, submitted, submit_answer_as, submit_answer}
 use Rattle.device.specs.Meaning.{with_disk, refused_by}
 use Rattle.device.specs.Collect.{found, without, due_as, due, collect_answer_as, collect_answer, collected_as, collected, buffer_as, buffer_after}
 use Rattle.device.specs.Questions.{tag_at, state_as, state_of, byte_count_as, byte_count}
-use Rattle.device.specs.Turns.{Turned, SameShape, Readied, Flushed, waiting, made_ready, waiting_write_at, open_write_at, flush_order}
-use Rattle.device.specs.Sound.{Sound, WellFormed, Each}
+use Rattle.device.specs.Turns.{Turned, Readied, Flushed, waiting, waiting_write_at, open_write_at}
+use Rattle.device.specs.Sound.{Each}
 use Rattle.device.proofs.Forms.{form_ok, form_from, form_kind}
 use Rattle.offset.specs.Means.{room, shifted, all_shifted, over, Lies, Within}
-use Rattle.offset.specs.SoundFacts.{length_shifted, open_shifted, flush_order_shifted, bad_in, mask_shifted, flush_none, over_sound}
+use Rattle.offset.specs.SoundFacts.{length_shifted, open_shifted, flush_order_shifted, bad_in, mask_shifted}
 use Rattle.device.proofs.TurnFacts.{idle_turned, each_readied, each_more}
 
 -- Questions

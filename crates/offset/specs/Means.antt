@@ -1,5 +1,5 @@
 -- A stretch of a device, by the meaning of the device below.
-use Rattle.std.specs.Prelude.{◌≡◌, ℕ, ◌+◌, ◌-◌, ◌≤◌, min, Bool, true, false, cond, ◌&&◌, ◌||◌, List, [], ◌∷◌, length, ◌==◌, nat_lt}
+use Rattle.std.specs.Prelude.{◌≡◌, ℕ, ◌+◌, ◌-◌, ◌≤◌, min, Bool, false, cond, ◌&&◌, ◌||◌, List, [], ◌∷◌, length, ◌==◌, nat_lt}
 use Rattle.device.specs.Meaning.{Meaning, Ticket, is_flush}
 use Rattle.device.specs.Layers.{layer_height}
 use Rattle.device.specs.Sound.{Each}

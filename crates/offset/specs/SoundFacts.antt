@@ -1,12 +1,11 @@
 -- Lemmas, no definitions to believe: an offset over a sound device is sound. They stand here because the layer's ghost member
 -- can cite this crate's lemmas only from specs/.
-use Rattle.std.specs.Prelude.{◌≡◌, ℕ, zero, suc, ◌+◌, ◌-◌, ◌*◌, ◌^◌, ◌<◌, ◌≤◌, min, Bool, true, false, cond, not, ◌&&◌, ◌||◌, ◌⊎◌, List, [], ◌∷◌, ◌++◌, length, ◌==◌, nat_lt, refl}
-use Rattle.std.proofs.Common.{sym, ap, ap₂, subst, ◌∙◌, inl, inr, ⊎_elim, arith, add_assoc}
-use Rattle.std.proofs.Math.Path.{fun_ext}
-use Rattle.std.proofs.lemmas.Bool.{cases_Bool, cond-true, cond-false, and_parts, and_from, ltb-true, leb-true, lt-ltb, eqb-true, eq-eqb, both_ways}
+use Rattle.std.specs.Prelude.{◌≡◌, ℕ, zero, suc, ◌+◌, ◌-◌, ◌^◌, ◌≤◌, Bool, true, false, cond, not, ◌&&◌, ◌||◌, List, [], ◌∷◌, length, ◌==◌, nat_lt, refl}
+use Rattle.std.proofs.Common.{sym, ap, ap₂, ◌∙◌, ⊎_elim, arith, add_assoc}
+use Rattle.std.proofs.lemmas.Bool.{cases_Bool, and_parts, and_from, ltb-true, lt-ltb, eqb-true, eq-eqb, both_ways}
 use Rattle.device.specs.declared.interface.Kind.{Kind}
 use Rattle.device.specs.declared.interface.Kind.TheVariants.{Read, Write, Flush}
-use Rattle.device.specs.Meaning.{Meaning, Ticket, Contents, is_read, is_write, is_flush, covers, mask_of, bytes_of, zeros}
+use Rattle.device.specs.Meaning.{Meaning, Ticket, is_flush, mask_of}
 use Rattle.device.specs.Submit.{fair_count, tag_is_open}
 use Rattle.device.specs.Turns.{none_ready, flush_free, flush_order}
 use Rattle.device.specs.Sound.{Sound, WellFormed, Each, distinct}

@@ -1,5 +1,5 @@
 -- The promises of a list of calls, for a device by its meaning at set-up.
-use Rattle.std.proofs.Common.{◌≡◌, ℕ, List, [], IfOk, Ok, Err, vec_items, Result, Vec, ap, ◌∙◌, subst, MatchResult}
+use Rattle.std.proofs.Common.{◌≡◌, ℕ, List, [], IfOk, Ok, Err, vec_items, Result, Vec, ap, subst, MatchResult}
 use Rattle.std.specs.declared.alloc.Global.{Global}
 use Rattle.device.specs.Meaning.{Meaning}
 use Rattle.device.specs.Told.{Told}

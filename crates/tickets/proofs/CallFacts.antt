@@ -7,12 +7,10 @@ use Rattle.device.specs.declared.interface.Kind.TheVariants.{Read, Write, Flush}
 use Rattle.device.specs.declared.interface.Cause.{Cause}
 use Rattle.device.specs.declared.interface.Cause.TheVariants as causes
 use Rattle.device.specs.declared.interface.Request.{Request}
-use Rattle.device.specs.declared.interface.Refusal.{Refusal}
 use Rattle.device.specs.Meaning.{with_disk, Meaning, Contents, Ticket, part, zeros, mask_of, bytes_of, covers, written, is_read, is_write, is_flush}
 use Rattle.device.specs.Submit as calls
 use Rattle.device.specs.Submit.{form, tag_is_open, ticket_of, disk_after, submitted_as, submitted, submit_answer_as, submit_answer}
 use Rattle.device.specs.Collect.{found, due_as, due, collect_answer_as, collect_answer, collected_as, collected, buffer_as, buffer_after}
-use Rattle.device.specs.Meaning.{refused_by}
 use Rattle.device.specs.Questions.{state_as, state_of, byte_count_as, byte_count}
 use Rattle.device.specs.Turns.{Turned, SameShape, made_ready}
 use Rattle.device.specs.Sound.{Sound, WellFormed, Each}

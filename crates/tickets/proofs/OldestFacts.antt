@@ -1,7 +1,7 @@
 -- Serving the oldest waiting place readies the oldest waiting ticket.
 use Rattle.std.proofs.Common.{◌≡◌, ℕ, ◌+◌, Bool, true, false, cond, List, [], ◌∷◌, get_or, set, Some, None, sym, refl, ap, ◌∙◌, arith}
 use Rattle.std.proofs.lemmas.Bool.{cond-true, cond-false}
-use Rattle.device.specs.Meaning.{Contents, Ticket}
+use Rattle.device.specs.Meaning.{Contents}
 use Rattle.device.specs.Turns.{made_ready}
 use Rattle.tickets.specs.declared.place.Place.{Place}
 use Rattle.tickets.specs.Places.{waiting_from}

@@ -1,4 +1,4 @@
-use Rattle.std.proofs.Common.{◌+◌, [], ◌∷◌, ◌++◌, length, set, vec_items, sym, refl, ap, ◌∙◌, arith}
+use Rattle.std.proofs.Common.{[], ◌∷◌, ◌++◌, length, set, vec_items, sym, refl, ap, ◌∙◌, arith}
 use Rattle.std.proofs.lemmas.Bool.{cond-true, cond-false}
 use Rattle.drive.specs.Buffer.{entry, stands_in, renewed, eased, pushed_out}
 use Rattle.drive.proofs.Finding.{at_sector, stands_has, stands_renewed, absent}

@@ -1,4 +1,4 @@
-use Rattle.std.proofs.Common.{◌≡◌, ◌+◌, ◌-◌, true, [], length, get_or, drop, sym, ap, ◌∙◌, arith}
+use Rattle.std.proofs.Common.{◌≡◌, ◌+◌, true, [], length, get_or, drop, sym, ap, ◌∙◌, arith}
 use Rattle.sectors.proofs.Parts.{length_sector}
 use Rattle.drive.specs.SoundFacts.{lies_parts}
 use Rattle.drive.specs.Buffer.{entry, all_lie, put_all}

@@ -1,5 +1,5 @@
-use Rattle.std.proofs.Common.{◌≡◌, ℕ, ◌+◌, ◌≤◌, min, sym, refl, ap, ◌∙◌, arith}
-use Rattle.dry.specs.Dry.{Turning, Dry}
+use Rattle.std.proofs.Common.{◌≡◌, ℕ, ◌+◌, ◌≤◌, min, refl, arith}
+use Rattle.dry.specs.Dry.{Turning}
 use Rattle.dry.proofs.DryFacts.{fewer, waiting_short}
 use Rattle.dry.proofs.dry.turn_times.Goals as goal
 

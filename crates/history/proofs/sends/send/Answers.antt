@@ -1,4 +1,4 @@
-use Rattle.std.proofs.Common.{◌≡◌, ℕ, List, length, sym, refl, ap, ◌∙◌, subst₂}
+use Rattle.std.proofs.Common.{◌≡◌, ℕ, List, length, sym, ap, ◌∙◌, subst₂}
 use Rattle.std.proofs.lemmas.List.{with_items_is}
 use Rattle.device.specs.Collect.{collect_answer, buffer_after, collected}
 use Rattle.device.specs.Told.{collect as told_collect}

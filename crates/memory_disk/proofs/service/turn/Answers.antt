@@ -1,4 +1,4 @@
-use Rattle.std.proofs.Common.{◌≡◌, ◌-◌, get_or, set, vec_items, sym, refl, ap, ◌∙◌, arith}
+use Rattle.std.proofs.Common.{◌≡◌, get_or, set, vec_items, sym, refl, ap, ◌∙◌, arith}
 use Rattle.tickets.specs.Open.{places_of}
 use Rattle.tickets.specs.Meant.{well}
 use Rattle.tickets.proofs.Stands.{oldest_within}

@@ -1,4 +1,4 @@
-use Rattle.std.proofs.Common.{◌≡◌, ℕ, ◌+◌, ◌*◌, ◌≤◌, length, sym, refl, ap, ◌∙◌, arith}
+use Rattle.std.proofs.Common.{◌+◌, ◌*◌, ◌≤◌, length, ◌∙◌, arith}
 use Rattle.mirror.specs.Means.{bit}
 use Rattle.mirror.proofs.Masks.{patch_set, patch_left}
 use Rattle.mirror.proofs.mix.patch.Goals as goal

@@ -1,4 +1,4 @@
-use Rattle.std.proofs.Common.{◌≡◌, ◌||◌, eqb, ltb, sym, ap, ◌∙◌, ap₂}
+use Rattle.std.proofs.Common.{◌||◌, eqb, ltb, sym, ap, ◌∙◌, ap₂}
 use Rattle.std.proofs.lemmas.Bool.{or_parts}
 use Rattle.offset.specs.Means.{Lies}
 use Rattle.offset.proofs.OffsetCalls.{none_open}

@@ -6,7 +6,7 @@ pub returns-in-Ok : goal.returns-in-Ok
 returns-in-Ok g c =
     let k = c.args.kind in
     let buffer = c.args.buffer.now in
-    let e : c.min-given.result ≡ _ = c.min-given.ensures ∙ ap (λ n. min n (length buffer)) c.data-length.ensures in
+    let e : c.min-given.result ≡ _ = c.min-given.ensures ∙ ap (λ n. min n (length buffer)) c.data_length.ensures in
     record {
       keeps = λ h. c.collect.ensures.keeps (c.turn-ticks.ensures.keeps (c.submit.ensures.keeps h));
       serves = λ h s room.
@@ -27,7 +27,7 @@ pub returns-in-Err : goal.returns-in-Err
 returns-in-Err g c =
     let k = c.args.kind in
     let buffer = c.args.buffer.now in
-    let e : c.min-given.result ≡ _ = c.min-given.ensures ∙ ap (λ n. min n (length buffer)) c.data-length.ensures in
+    let e : c.min-given.result ≡ _ = c.min-given.ensures ∙ ap (λ n. min n (length buffer)) c.data_length.ensures in
     record {
       keeps = λ h. c.collect.ensures.keeps (c.turn-ticks.ensures.keeps (c.submit.ensures.keeps h));
       serves = λ h s room.

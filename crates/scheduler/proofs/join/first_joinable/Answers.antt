@@ -9,7 +9,7 @@ pub returns-in-Some : goal.returns-in-Some
 returns-in-Some c = joined_turn _ _ _ _ _ _ _ c.loop-y-test.true c.in-Some.ensures c.loop-y.invariant
 
 pub loop-y-preserved : goal.loop-y-preserved
-loop-y-preserved c = joined_turn _ _ _ _ _ _ _ c.loop-y-test.true c.in-default.ensures c.loop-y.invariant
+loop-y-preserved c = joined_turn _ _ _ _ _ _ _ c.loop-y-test.true c.in_default.ensures c.loop-y.invariant
 
 pub returns : goal.returns
 returns c = sym (joined_all _ _ _ _ _ c.loop-y-test.false) ∙ c.loop-y.invariant

@@ -9,14 +9,14 @@ pub loop-i-preserved : goal.loop-i-preserved
 loop-i-preserved c =
     elim c.if-x-run.branch [
       | then-x-run w ↦ (
-        moved _ _ _ _ _ _ _ (ap vec_items w.waiting_is) w.to-is
+        moved _ _ _ _ _ _ _ (ap vec_items w.waiting-is) w.to-is
             (FiltersInPlace-more_set c.loop-i.invariant.0 (omega (arith, c.loop-i.invariant.0.long, c.args.waiting.now.ok.0)) (grind (arith, nat_tests)) c.index-x.ensures),
-        ap vec_capacity w.waiting_is ∙ c.loop-i.invariant.1,
+        ap vec_capacity w.waiting-is ∙ c.loop-i.invariant.1,
       )
       | else-x-run w ↦ (
-        moved _ _ _ _ _ _ _ (ap vec_items w.waiting_is) w.to-is
+        moved _ _ _ _ _ _ _ (ap vec_items w.waiting-is) w.to-is
             (FiltersInPlace-more_no c.loop-i.invariant.0 (omega (arith, c.loop-i.invariant.0.long, c.args.waiting.now.ok.0)) (grind (arith, nat_tests)) c.index-x.ensures),
-        ap vec_capacity w.waiting_is ∙ c.loop-i.invariant.1,
+        ap vec_capacity w.waiting-is ∙ c.loop-i.invariant.1,
       )
     ]
 

@@ -3,13 +3,13 @@ use Rattle.std.proofs.lemmas.Bool.Decides.{nat_tests}
 use Rattle.deadline.specs.Waiting.{conflict}
 use Rattle.scheduler.proofs.waiting.conflict.Goals as goal
 
-pub returns-then-is-write : goal.returns-then-is-write
+pub returns-then-is_write : goal.returns-then-is_write
 unfolding conflict
-returns-then-is-write c = grind (arith, nat_tests)
+returns-then-is_write c = grind (arith, nat_tests)
 
-pub returns-else-is-write : goal.returns-else-is-write
+pub returns-else-is_write : goal.returns-else-is_write
 unfolding conflict
-returns-else-is-write c = grind (arith, nat_tests)
+returns-else-is_write c = grind (arith, nat_tests)
 
 pub returns-else-y-x : goal.returns-else-y-x
 unfolding conflict

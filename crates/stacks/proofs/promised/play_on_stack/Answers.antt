@@ -1,4 +1,4 @@
-use Rattle.std.proofs.Common.{◌≡◌, vec_items, ap, ◌∙◌, ap₂}
+use Rattle.std.proofs.Common.{vec_items, ap, ◌∙◌, ap₂}
 use Rattle.mirror.specs.Means as mirror
 use Rattle.offset.specs.Means as offset
 use Rattle.stacks.proofs.Applies.{applies}

@@ -1,5 +1,4 @@
 use Rattle.std.proofs.Common.{refl, ◌∙◌, arith}
-use Rattle.device.specs.Meaning.{Meaning}
 use Rattle.sectors.specs.Shown.{shown}
 use Rattle.tickets.specs.Open.{places_of}
 use Rattle.tickets.proofs.CallFacts.{Collects, collects}

@@ -1,4 +1,4 @@
-use Rattle.std.proofs.Common.{◌≡◌, sym, refl, ap, ◌∙◌, subst, arith}
+use Rattle.std.proofs.Common.{sym, ap, ◌∙◌, subst, arith}
 use Rattle.device.specs.Meaning.{Meaning}
 use Rattle.device.specs.Turns.{Turned}
 use Rattle.sectors.specs.Shown.{Spares}

@@ -1,8 +1,8 @@
-use Rattle.std.proofs.Common.{◌≡◌, ℕ, ◌*◌, ◌/◌, min, List, ◌++◌, length, drop, replicate, Ok, Err, sym, refl, ap, ◌∙◌, subst, ap₂}
+use Rattle.std.proofs.Common.{ℕ, ◌*◌, ◌/◌, min, List, ◌++◌, length, drop, replicate, Ok, sym, ap, ◌∙◌, subst, ap₂}
 use lib.Bits.{bit_and}
 use Rattle.std.proofs.lemmas.List.{length-replicate}
 use Rattle.device.specs.Collect.{collected, collect_answer}
-use Rattle.mirror.specs.Means.{mirrored, Level, Agree, picked, bit, answered}
+use Rattle.mirror.specs.Means.{mirrored, Level, picked, bit, answered}
 use Rattle.mirror.proofs.MirrorCalls.{collects_both, BothCollect}
 use Rattle.mirror.proofs.as_device.MirrorDevice.collect.Goals as goal
 

@@ -1,7 +1,6 @@
-use Rattle.std.proofs.Common.{◌≡◌, length, sym, refl, ap, ◌∙◌, subst, ap₂}
-use Rattle.device.specs.Meaning.{Meaning}
+use Rattle.std.proofs.Common.{sym, ◌∙◌, subst, ap₂}
 use Rattle.device.specs.Submit.{submitted}
-use Rattle.mirror.specs.Means.{mirrored, Level, Agree}
+use Rattle.mirror.specs.Means.{mirrored, Level}
 use Rattle.mirror.proofs.MirrorCalls.{submits_both, BothSubmit}
 use Rattle.mirror.proofs.as_device.MirrorDevice.submit.Goals as goal
 

@@ -1,9 +1,7 @@
-use Rattle.std.proofs.Common.{◌≡◌, ℕ, ◌<◌, ◌≤◌, ltb, Ok, Err, sym, ap, ◌∙◌, ap₂}
+use Rattle.std.proofs.Common.{ltb, Ok, Err, sym, ap, ◌∙◌, ap₂}
 use Rattle.std.proofs.lemmas.Bool.{cond-true, cond-false, lt-ltb, le-ltb}
-use Rattle.device.specs.declared.interface.State.{State}
-use Rattle.device.specs.declared.interface.State.TheVariants as states
 use Rattle.device.specs.declared.interface.Cause.TheVariants as causes
-use Rattle.device.specs.Questions.{state_of, byte_count}
+use Rattle.device.specs.Questions.{byte_count}
 use Rattle.mirror.proofs.MirrorCalls.{dues_open, judged_due}
 use Rattle.mirror.proofs.mirror.Mirror.bytes_due.Goals as goal
 

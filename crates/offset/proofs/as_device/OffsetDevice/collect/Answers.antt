@@ -1,4 +1,4 @@
-use Rattle.std.proofs.Common.{◌≡◌, length, Ok, Err, sym, refl, ap, ◌∙◌, subst}
+use Rattle.std.proofs.Common.{length, Err, sym, ap, ◌∙◌, subst}
 use Rattle.device.specs.Told.{collect as told_collect}
 use Rattle.offset.specs.Means.{Within, over}
 use Rattle.offset.proofs.OffsetCalls.{collects, refused_same, height_collected}

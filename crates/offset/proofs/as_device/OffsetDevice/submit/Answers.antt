@@ -1,4 +1,4 @@
-use Rattle.std.proofs.Common.{◌≡◌, length, Ok, Err, sym, refl, ap, ◌∙◌, subst}
+use Rattle.std.proofs.Common.{length, Err, sym, ap, ◌∙◌, subst}
 use Rattle.device.specs.Submit.{form}
 use Rattle.device.specs.Told.{submit as told_submit}
 use Rattle.offset.specs.Means.{Within, over}

@@ -1,8 +1,7 @@
-use Rattle.std.proofs.Common.{◌≡◌, length, sym, refl, ap, ◌∙◌}
-use Rattle.device.specs.Questions.{tag_at, state_of, byte_count}
+use Rattle.std.proofs.Common.{sym, ap, ◌∙◌}
+use Rattle.device.specs.Questions.{tag_at}
 use Rattle.offset.specs.Means.{all_shifted}
-use Rattle.offset.specs.SoundFacts.{length_shifted}
-use Rattle.offset.proofs.OffsetCalls.{opened, tag_at_shifted, state_shifted, count_shifted}
+use Rattle.offset.proofs.OffsetCalls.{opened, tag_at_shifted}
 use Rattle.offset.proofs.as_device.OffsetDevice.tag_at.Goals as goal
 
 pub returns-else-self : goal.returns-else-self

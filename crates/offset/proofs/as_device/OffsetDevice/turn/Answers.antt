@@ -1,4 +1,4 @@
-use Rattle.std.proofs.Common.{◌≡◌, sym, refl, ap, ◌∙◌}
+use Rattle.std.proofs.Common.{refl}
 use Rattle.std.proofs.lemmas.Bool.{both_ways}
 use Rattle.offset.proofs.OffsetCalls.{turns_open, turns_shut}
 use Rattle.offset.proofs.as_device.OffsetDevice.turn.Goals as goal

@@ -11,28 +11,19 @@ returns-then-waits c = record {
   settings = refl;
 }
 
-pub invariant-of-self : goal.invariant-of-self
-invariant-of-self c = (
-  few_more _ _ _ c.push-reserved.ensures.items c.requires.place,
-  (
-    small_more _ _ _ c.push-reserved.ensures.items c.args.self.now.small c.requires.within,
-    (
-      omega (arith, c.push-reserved.ensures.capacity, c.args.self.now.reserved),
-      (
-        c.args.self.now.served_limit,
-        (
-          c.args.self.now.passed_limit,
-          tt,
-        ),
-      ),
-    ),
-  ),
-)
+pub invariant_of-self : goal.invariant_of-self
+invariant_of-self c = record {
+  few = few_more _ _ _ c.push_reserved.ensures.items c.requires.place;
+  small = small_more _ _ _ c.push_reserved.ensures.items c.args.self.now.small c.requires.within;
+  reserved = omega (arith, c.push_reserved.ensures.capacity, c.args.self.now.reserved);
+  served_limit = c.args.self.now.served_limit;
+  passed_limit = c.args.self.now.passed_limit;
+}
 
 pub returns : goal.returns
 returns c = record {
-  state = added (settings_of c.args.self.now.settings) (state_of c.args.self.now) _ _ _ _ _ _ c.run-to-join-head.result _
+  state = added (settings_of c.args.self.now.settings) (state_of c.args.self.now) _ _ _ _ _ _ c.run_to_join-head.result _
       c.if-waits.ensures c.max-tick.ensures
-      (cc (c.run-to-join-head.ensures, c.as-slice.ensures.value)) c.push-reserved.ensures.items;
+      (cc (c.run_to_join-head.ensures, c.as_slice.ensures.value)) c.push_reserved.ensures.items;
   settings = refl;
 }

@@ -1,4 +1,4 @@
-use Rattle.std.proofs.Common.{◌≡◌, ◌+◌, ◌-◌, ◌<◌, false, eqb, [], ◌∷◌, ◌++◌, length, vec_items, sym, refl, ap, ◌∙◌, arith}
+use Rattle.std.proofs.Common.{◌≡◌, ◌<◌, [], ◌∷◌, ◌++◌, length, vec_items, refl, ap, ◌∙◌, arith}
 use Rattle.std.proofs.lemmas.Bool.{eqb-false}
 use Rattle.device.specs.Submit.{form}
 use Rattle.sectors.specs.Memory.{names}
@@ -39,9 +39,9 @@ invariant_of-self c =
       within = omega (arith, c.push_reserved.ensures.len, v.ok.0, s.table.places.ok.0, lt);
       apart = ap apart items ∙ apart_push ps place s.apart (ap (λ p. has_tag p.tag ps) made ∙ absent_has q.tag ps a.1);
       well =
-        ap (all_well s.size (names s.named)) items
-        ∙ well_push s.size (names s.named) ps place s.well
-        (ap (well s.size (names s.named)) made ∙ fresh_well s.size (names s.named) q k _ d a.0 refl);
+          ap (all_well s.size (names s.named)) items
+          ∙ well_push s.size (names s.named) ps place s.well
+          (ap (well s.size (names s.named)) made ∙ fresh_well s.size (names s.named) q k _ d a.0 refl);
       turns = ap in_turn items ∙ in_turn_push ps place s.turns (ap (λ p. p.ready) made);
     }
 

@@ -1,5 +1,5 @@
 use Rattle.tickets.specs.Places.{by_tag}
-use Rattle.std.proofs.Common.{◌≡◌, ◌-◌, ◌<◌, ◌≤◌, Ok, sym, refl, ap, ◌∙◌, arith}
+use Rattle.std.proofs.Common.{◌<◌, ◌≤◌, Ok, sym, ap, ◌∙◌, arith}
 use Rattle.std.proofs.lemmas.List.{get_or_default}
 use Rattle.tickets.specs.Meant.{place_of}
 use Rattle.tickets.specs.Front.{blank, byte_room, due_place}

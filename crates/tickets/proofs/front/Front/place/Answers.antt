@@ -1,5 +1,5 @@
 use Rattle.tickets.specs.Places.{by_tag}
-use Rattle.std.proofs.Common.{◌-◌, sym, arith}
+use Rattle.std.proofs.Common.{sym, arith}
 use Rattle.tickets.specs.Open.{places_of}
 use Rattle.device.proofs.Lookup.{stands_within}
 use Rattle.tickets.proofs.FrontFacts.{at_tag, no_place, lent_place}

@@ -1,10 +1,10 @@
 use Rattle.tickets.specs.Places.{by_tag}
-use Rattle.std.proofs.Common.{◌≡◌, ◌+◌, ◌-◌, ◌≤◌, ◌++◌, length, get_or, take, drop, vec_items, sym, refl, ap, ◌∙◌, arith}
+use Rattle.std.proofs.Common.{◌≡◌, ◌++◌, length, get_or, take, drop, vec_items, refl, ap, ◌∙◌, arith}
 use Rattle.std.proofs.lemmas.List.{get_or_default}
 use Rattle.sectors.specs.Memory.{names}
-use Rattle.tickets.specs.Meant.{well, place_of, apart, all_well, in_turn, less}
+use Rattle.tickets.specs.Meant.{place_of, apart, all_well, in_turn, less}
 use Rattle.tickets.specs.Front.{blank, byte_room}
-use Rattle.tickets.specs.Open.{places_of, place_at}
+use Rattle.tickets.specs.Open.{places_of}
 use Rattle.tickets.proofs.Stands.{stands_less}
 use Rattle.device.proofs.Lookup.{stands, stands_within}
 use Rattle.tickets.proofs.Keeps.{apart_less, well_at, well_less, in_turn_less, length_less}
