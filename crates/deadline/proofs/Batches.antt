@@ -1,13 +1,13 @@
 -- A batch serves few runs, of one kind, in rising order; and a flush closes it.
-use Rattle.std.proofs.Common.{◌≡◌, ℕ, suc, ◌+◌, ◌<◌, ◌≤◌, Bool, true, false, cond, List, [], ◌∷◌, ◌++◌, map, length, sym, refl, ap, ◌∙◌, subst, arith}
+use Rattle.std.proofs.Common.{◌≡◌, ℕ, suc, ◌+◌, ◌<◌, ◌≤◌, cond, List, [], ◌∷◌, map, length, sym, refl, ap, ◌∙◌, subst, arith}
 use Rattle.device.specs.declared.interface.Kind.{Kind}
 use Rattle.device.specs.declared.interface.Kind.TheVariants.{Read, Write, Flush}
 use Rattle.device.specs.Meaning.{is_read, is_write}
-use Rattle.deadline.specs.Settings.{Settings, WithinLimits}
-use Rattle.deadline.specs.Waiting.{Queued, Run, ends, free_runs}
-use Rattle.deadline.specs.Turn.{State, set_up, position, Batch, closed, reading, writing, Choice, idle, passes_down, goes_on, begins_with, one_more, opened, after, at_tick, turned, chosen}
+use Rattle.deadline.specs.Settings.{Settings}
+use Rattle.deadline.specs.Waiting.{Run, ends}
+use Rattle.deadline.specs.Turn.{State, set_up, position, Batch, closed, reading, writing, idle, passes_down, goes_on, begins_with, one_more, opened, after, at_tick, turned}
 use Rattle.deadline.specs.Events.{Event, following, dispatched}
-use Rattle.deadline.specs.Laws.{Open, Lowest, Goes_on, BeginsWith, NextKind, ByTheRules, AllOf, Rising, ABatch, BatchesAreShortAndRising, FlushesCloseTheBatch}
+use Rattle.deadline.specs.Laws.{Open, NextKind, ByTheRules, AllOf, Rising, ABatch, BatchesAreShortAndRising, FlushesCloseTheBatch}
 use Rattle.deadline.proofs.Reached.{Good, good_turned}
 use Rattle.deadline.proofs.Overtaking.{good_always}
 use Rattle.deadline.proofs.Dispatches.{Alike, FirstDispatch, first_dispatch, rules_at, serves_as}

@@ -1,16 +1,16 @@
 -- The waiting bound: while a ticket waits past the longer period, each turn takes from a number that begins at (k + 1) × (W + 1) × F at most.
-use Rattle.std.proofs.Common.{◌≡◌, ℕ, zero, suc, ◌+◌, ◌-◌, ◌*◌, ◌<◌, ◌≤◌, max, Bool, true, false, cond, not, ◌&&◌, ◌||◌, eqb, ltb, leb, ◌⊎◌, List, [], ◌∷◌, ◌++◌, sym, refl, ap, ◌∙◌, subst, inl, inr, mul-le-mul_right, arith}
-use Rattle.std.proofs.lemmas.Bool.{true≢false, both_ways, eqb-true, eqb-false, eq-eqb, ne_eqb, or_cases, or_parts, or_from, or_left, or_right, and_parts, and_from, cases_Bool}
+use Rattle.std.proofs.Common.{◌≡◌, ℕ, suc, ◌+◌, ◌-◌, ◌*◌, ◌≤◌, max, Bool, true, false, cond, not, eqb, ◌⊎◌, List, [], ◌∷◌, sym, refl, ap, ◌∙◌, subst, inl, inr, mul-le-mul_right, arith}
+use Rattle.std.proofs.lemmas.Bool.{true≢false, both_ways, ne_eqb, or_from, or_left, or_right}
 use Rattle.device.specs.declared.interface.Kind.{Kind}
 use Rattle.device.specs.declared.interface.Kind.TheVariants.{Read, Write, Flush}
 use Rattle.deadline.specs.Settings.{Settings, period, longer_period, WithinLimits}
 use Rattle.deadline.specs.Waiting.{Queued, has_tag}
-use Rattle.deadline.specs.Turn.{State, set_up, Batch, closed, reading, writing, without, submitted, taken, Choice, idle, passes_down, goes_on, begins_with, choice, one_more, after, at_tick, turned_with, turned}
+use Rattle.deadline.specs.Turn.{State, set_up, Batch, without, submitted, taken, at_tick, turned_with, turned}
 use Rattle.deadline.specs.Events.{Event, submit, turn, collect, following, turns_in}
 use Rattle.deadline.specs.Bound.{WaitsThrough, older_than, tick_of}
-use Rattle.deadline.proofs.Lists.{any_within, onto}
-use Rattle.deadline.proofs.Sound.{newest, newest_without, Fine, SoundFrom, sound_without}
-use Rattle.deadline.proofs.Progress.{Begun, begun_opened, turns_left, turns_left_bound, Outcome, turn_outcome}
+use Rattle.deadline.proofs.Lists.{any_within}
+use Rattle.deadline.proofs.Sound.{newest, SoundFrom}
+use Rattle.deadline.proofs.Progress.{Begun, turns_left, turns_left_bound, Outcome, turn_outcome}
 use Rattle.deadline.specs.Bound.{WaitingIsBounded}
 use Rattle.deadline.proofs.Taking.{taken_keeps, taken_oldest}
 use Rattle.deadline.proofs.Reached.{Good, good_turned, good_submitted, good_following, good_set_up}

@@ -1,17 +1,14 @@
 -- What is dispatched over a list of events: the first of it, and what that leaves.
-use Rattle.std.proofs.Common.{◌≡◌, ℕ, suc, ◌+◌, ◌<◌, ◌≤◌, max, Bool, true, false, cond, not, ◌&&◌, ◌||◌, ◌⊎◌, List, [], ◌∷◌, ◌++◌, map, length, sym, refl, ap, ◌∙◌, subst, inl, inr, arith}
-use Rattle.std.proofs.lemmas.Bool.{true≢false}
+use Rattle.std.proofs.Common.{◌≡◌, ℕ, max, Bool, true, false, cond, ◌⊎◌, List, [], ◌∷◌, sym, refl, ap, ◌∙◌, subst, inl, inr, arith}
 use Rattle.device.specs.declared.interface.Kind.{Kind}
-use Rattle.device.specs.declared.interface.Kind.TheVariants.{Read, Write, Flush}
-use Rattle.device.specs.Meaning.{is_read, is_write}
-use Rattle.deadline.specs.Settings.{Settings, WithinLimits}
-use Rattle.deadline.specs.Waiting.{Queued, Run, ends, has_tag, free_runs}
-use Rattle.deadline.specs.Turn.{State, set_up, position, Batch, closed, reading, writing, Choice, idle, passes_down, goes_on, begins_with, one_more, opened, some_of, passed_over_by, choice, chosen, after, at_tick, taken, turned_with, turned, submitted}
-use Rattle.deadline.specs.Events.{Event, submit, turn, collect, following, dispatched, noted}
-use Rattle.deadline.specs.Laws.{Open, Goes_on, BeginsWith, ByTheRules, AllOf, Rising, ABatch, BatchesAreShortAndRising, FlushesCloseTheBatch}
+use Rattle.deadline.specs.Settings.{Settings}
+use Rattle.deadline.specs.Waiting.{Queued, has_tag}
+use Rattle.deadline.specs.Turn.{State, Choice, idle, passes_down, goes_on, begins_with, choice, chosen, after, at_tick, taken, turned_with, turned, submitted}
+use Rattle.deadline.specs.Events.{Event, submit, turn, collect, dispatched, noted}
+use Rattle.deadline.specs.Laws.{ByTheRules}
 use Rattle.deadline.proofs.Reached.{Good, good_turned, good_submitted}
 use Rattle.deadline.proofs.RuleFacts.{by_the_rules}
-use Rattle.deadline.proofs.Overtaking.{good_always, turned_is}
+use Rattle.deadline.proofs.Overtaking.{turned_is}
 
 -- what neither a submit nor a turn that serves nothing changes
 pub record Alike (s s' : State) : Type 0 where

@@ -1,5 +1,5 @@
 -- Free, as it is computed, is free in the words of the rule.
-use Rattle.std.proofs.Common.{◌≡◌, ℕ, Bool, true, false, cond, not, ◌&&◌, ◌||◌, ◌⊎◌, List, [], ◌∷◌, ◌++◌, sym, refl, ap, ◌∙◌, subst, inl, inr}
+use Rattle.std.proofs.Common.{◌≡◌, ℕ, Bool, true, false, not, ◌&&◌, ◌||◌, ◌⊎◌, List, [], ◌∷◌, ◌++◌, sym, refl, ap, subst, inl, inr}
 use Rattle.std.proofs.lemmas.Bool.{true≢false, both_ways, or_cases, or_left, or_right, or_from, and_parts, and_from, and_left, and_right, and_cases, not-true, not_from_false, not_from_true, cases_Bool}
 use Rattle.device.specs.Meaning.{is_flush}
 use Rattle.deadline.specs.Waiting.{Queued, any, is_in, conflict, unhindered, before_flushes, free}

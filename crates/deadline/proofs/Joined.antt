@@ -1,18 +1,15 @@
 -- The run that a new ticket joins, and what is kept of the waiting tickets when it is taken.
-use Rattle.std.proofs.Common.{◌≡◌, ℕ, suc, ◌+◌, ◌≤◌, max, Bool, true, false, cond, not, ◌&&◌, ◌||◌, eqb, leb, ◌⊎◌, List, [], ◌∷◌, ◌++◌, sym, refl, ap, ◌∙◌, subst, inl, inr, append_assoc, arith}
-use Rattle.std.proofs.lemmas.Bool.{true≢false, both_ways, eqb-true, eqb-false, eq-eqb, or_from, or_left, or_right, or_parts, and_parts, and_from, and_left, and_right, and_cases, not-true, not-false, not_from_true, not_from_false, cases_Bool}
-use Rattle.device.specs.declared.interface.Kind.{Kind}
+use Rattle.std.proofs.Common.{◌≡◌, ℕ, ◌+◌, ◌≤◌, Bool, true, false, cond, not, ◌&&◌, eqb, leb, ◌⊎◌, List, [], ◌∷◌, ◌++◌, sym, refl, ◌∙◌, subst, inl, inr, append_assoc, arith}
+use Rattle.std.proofs.lemmas.Bool.{both_ways, eqb-true, eq-eqb, or_from, or_left, or_right, or_parts, and_parts, and_from, and_left, and_right, and_cases, not-true, not-false, not_from_true, not_from_false, cases_Bool}
 use Rattle.device.specs.Meaning.{is_flush, longest_run}
 use Rattle.deadline.specs.Settings.{Settings}
 use Rattle.deadline.specs.Waiting.{Queued, Run, any, those, same, end, ends, is_in, is_head, has_tag, conflict, run_of, runs, runs_headed_in}
-use Rattle.deadline.specs.Joining.{has_flush, past_flushes, has_room, joinable, name_of_first, run_for, in_run, once_runs_touch}
-use Rattle.deadline.specs.Turn.{taken}
-use Rattle.deadline.specs.Bound.{older_than, tick_of}
+use Rattle.deadline.specs.Joining.{has_flush, past_flushes, has_room, joinable, name_of_first, run_for, in_run}
 use Rattle.deadline.specs.Laws.{In}
 use Rattle.deadline.proofs.KindFacts.{same_is, same_self}
-use Rattle.deadline.proofs.Lists.{onto, any_onto_false, any_onto, any_fewer, any_joined, any_in, not_in, in_onto, in_older}
+use Rattle.deadline.proofs.Lists.{onto, any_onto_false, any_onto, any_fewer, any_joined, any_in, not_in}
 use Rattle.deadline.proofs.Members.{in_back}
-use Rattle.deadline.proofs.Sound.{newest, heads, unsplit, strange, Fine, SoundFrom, sound_push, sound_front, sound_back, fine_at, fresh_heads, newest_onto}
+use Rattle.deadline.proofs.Sound.{newest, heads, unsplit, strange, Fine, SoundFrom, sound_front, sound_back, fresh_heads, newest_onto}
 
 -- ── runs and their heads ──
 

@@ -1,5 +1,5 @@
 -- Kinds of requests.
-use Rattle.std.proofs.Common.{◌≡◌, Bool, true, false, sym, refl}
+use Rattle.std.proofs.Common.{◌≡◌, true, sym, refl}
 use Rattle.std.proofs.lemmas.Bool.{true≢false}
 use Rattle.device.specs.declared.interface.Kind.{Kind}
 use Rattle.device.specs.declared.interface.Kind.TheVariants.{Read, Write, Flush}

@@ -1,6 +1,6 @@
 -- Laws of `any` and `those`, and what a turn and a submit keep of the waiting list.
-use Rattle.std.proofs.Common.{◌≡◌, ℕ, zero, suc, ◌+◌, ◌-◌, ◌*◌, ◌<◌, ◌≤◌, max, Bool, true, false, cond, not, ◌&&◌, ◌||◌, eqb, ltb, leb, ◌⊎◌, List, [], ◌∷◌, ◌++◌, sym, refl, ap, ◌∙◌, subst, inl, inr, arith}
-use Rattle.std.proofs.lemmas.Bool.{true≢false, both_ways, eqb-true, eqb-false, eq-eqb, ne_eqb, or_cases, or_parts, or_from, or_left, or_right, and_parts, not_from_false, cases_Bool}
+use Rattle.std.proofs.Common.{◌≡◌, ℕ, Bool, true, false, cond, not, eqb, ◌⊎◌, List, [], ◌∷◌, ◌++◌, sym, refl, inl, inr}
+use Rattle.std.proofs.lemmas.Bool.{true≢false, both_ways, or_cases, or_parts, or_from, or_left, or_right, not_from_false, cases_Bool}
 use Rattle.deadline.specs.Waiting.{Queued, is_in, any}
 use Rattle.deadline.specs.Turn.{without}
 use Rattle.deadline.specs.Laws.{In}

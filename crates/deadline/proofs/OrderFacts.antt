@@ -1,5 +1,5 @@
 -- The examples, by computation.
-use Rattle.std.proofs.Common.{◌≡◌, refl}
+use Rattle.std.proofs.Common.{refl}
 use Rattle.deadline.specs.Waiting.{conflict, run_of, runs, free, free_runs}
 use Rattle.deadline.specs.Joining.{joinable, run_for, once_runs_touch}
 use Rattle.deadline.specs.Turn.{taken, submitted, new_batch, choice, after, turned}

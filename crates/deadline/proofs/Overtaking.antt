@@ -1,15 +1,14 @@
 -- No ticket is served before an older one that it has to stay behind.
-use Rattle.std.proofs.Common.{◌≡◌, ℕ, max, Bool, true, false, cond, not, ◌&&◌, ◌||◌, eqb, ◌⊎◌, List, [], ◌∷◌, ◌++◌, sym, refl, ap, ◌∙◌, subst, inl, inr, append_assoc}
-use Rattle.std.proofs.lemmas.Bool.{true≢false, both_ways, eqb-true, eq-eqb, or_cases, and_parts, and_cases, not-true, not-false, cases_Bool}
-use Rattle.device.specs.declared.interface.Kind.{Kind}
+use Rattle.std.proofs.Common.{◌≡◌, ℕ, true, false, not, ◌&&◌, ◌||◌, ◌⊎◌, List, [], ◌∷◌, ◌++◌, sym, refl, ap, ◌∙◌, subst, inl, inr, append_assoc}
+use Rattle.std.proofs.lemmas.Bool.{both_ways, eqb-true, eq-eqb, or_cases, and_parts, and_cases, not-true, not-false, cases_Bool}
 use Rattle.device.specs.Meaning.{is_flush}
-use Rattle.deadline.specs.Settings.{Settings, WithinLimits}
+use Rattle.deadline.specs.Settings.{Settings}
 use Rattle.deadline.specs.Waiting.{Queued, Run, any, same, is_in, conflict, runs, free, free_runs}
 use Rattle.deadline.specs.Turn.{State, set_up, position, Choice, idle, passes_down, goes_on, begins_with, without, choice, chosen, after, at_tick, turned_with, turned}
 use Rattle.deadline.specs.Events.{Event, following}
-use Rattle.deadline.specs.Laws.{In, Goes_on, BeginsWith, ByTheRules, stays_behind, NothingOvertakes, OldestIsFree, TurnsFollowTheRules}
+use Rattle.deadline.specs.Laws.{In, ByTheRules, stays_behind, NothingOvertakes, OldestIsFree, TurnsFollowTheRules}
 use Rattle.deadline.proofs.KindFacts.{same_is}
-use Rattle.deadline.proofs.Members.{in_front, in_back}
+use Rattle.deadline.proofs.Members.{in_back}
 use Rattle.deadline.proofs.Lists.{onto, not_in, any_in, in_onto, in_without}
 use Rattle.deadline.proofs.Sound.{unsplit, strange, Fine, SoundFrom, fine_at}
 use Rattle.deadline.proofs.Joined.{Each, OfHead, each_run, kin}

@@ -1,14 +1,13 @@
 -- One turn, where the oldest waiting ticket is expired: its run is served, or its turns left grow fewer.
-use Rattle.std.proofs.Common.{◌≡◌, ℕ, zero, suc, ◌+◌, ◌-◌, ◌*◌, ◌<◌, ◌≤◌, max, Bool, true, false, cond, not, ◌&&◌, ◌||◌, eqb, ltb, leb, ◌⊎◌, List, [], ◌∷◌, ◌++◌, Some, None, Option, sym, refl, ap, ◌∙◌, subst, inl, inr, mul-le-mul_right, arith}
-use Rattle.std.proofs.lemmas.Bool.{true≢false, both_ways, eqb-true, eqb-false, eq-eqb, ne_eqb, le-leb, lt-leb, leb-true, leb-false, ltb-true, or_cases, or_parts, or_from, or_left, or_right, and_parts, and_from, and_left, and_right, not_from_false, not-true, cases_Bool}
+use Rattle.std.proofs.Common.{◌≡◌, ℕ, suc, ◌+◌, ◌-◌, ◌*◌, ◌≤◌, Bool, true, false, cond, not, ◌&&◌, eqb, ltb, leb, ◌⊎◌, List, [], ◌∷◌, Some, None, Option, sym, refl, ap, ◌∙◌, subst, inl, inr, mul-le-mul_right, arith}
+use Rattle.std.proofs.lemmas.Bool.{true≢false, eq-eqb, le-leb, lt-leb, leb-false, ltb-true, and_parts, not-true}
 use Rattle.device.specs.declared.interface.Kind.{Kind}
 use Rattle.device.specs.declared.interface.Kind.TheVariants.{Read, Write, Flush}
 use Rattle.device.specs.Meaning.{is_flush}
 use Rattle.deadline.specs.Settings.{Settings, period, WithinLimits}
-use Rattle.deadline.specs.Waiting.{same, Queued, Run, any, those, is_in, conflict, run_of, runs, runs_headed_in, unhindered, before_flushes, free, free_runs}
+use Rattle.deadline.specs.Waiting.{same, Queued, Run, those, run_of, runs, free, free_runs}
 use Rattle.deadline.specs.Turn.{State, Batch, closed, reading, writing, without, passes_down, goes_on, begins_with, lower, lowest, some_of, next_of, reads_next, expired, or_oldest, first_of, new_batch, served_run, by_oldest, choice, one_more, opened, after}
-use Rattle.deadline.proofs.Lists.{any_fewer}
-use Rattle.deadline.proofs.Sound.{Fine, SoundFrom}
+use Rattle.deadline.proofs.Sound.{SoundFrom}
 use Rattle.deadline.proofs.Joined.{Each}
 use Rattle.deadline.proofs.KindFacts.{same_is}
 use Rattle.deadline.proofs.FreeFacts.{own_head, oldest_free_run}

@@ -1,13 +1,13 @@
 -- A turn's choice is the one that the rules name.
-use Rattle.std.proofs.Common.{◌≡◌, ℕ, suc, ◌+◌, ◌<◌, ◌≤◌, max, Bool, true, false, cond, not, ◌&&◌, ◌||◌, eqb, ltb, leb, ◌⊎◌, List, [], ◌∷◌, ◌++◌, Some, None, Option, sym, refl, ap, ◌∙◌, subst, inl, inr, arith}
-use Rattle.std.proofs.lemmas.Bool.{true≢false, both_ways, leb-true, leb-false, ltb-true, lt-ltb, or_cases, or_left, or_right, and_parts, and_from, and_cases, not-true, not_from_false, not_from_true, cases_Bool}
+use Rattle.std.proofs.Common.{◌≡◌, ℕ, ◌<◌, ◌≤◌, Bool, true, false, cond, not, ◌&&◌, ltb, leb, ◌⊎◌, List, [], ◌∷◌, Some, None, Option, sym, refl, ap, ◌∙◌, subst, inl, inr, arith}
+use Rattle.std.proofs.lemmas.Bool.{true≢false, both_ways, leb-true, leb-false, ltb-true, lt-ltb, and_parts, and_from, and_cases, not-true, cases_Bool}
 use Rattle.device.specs.declared.interface.Kind.{Kind}
 use Rattle.device.specs.declared.interface.Kind.TheVariants.{Read, Write, Flush}
 use Rattle.device.specs.Meaning.{is_flush}
 use Rattle.deadline.specs.Settings.{Settings}
 use Rattle.deadline.specs.Waiting.{Queued, Run, those, same, runs, free, free_runs}
-use Rattle.deadline.specs.Turn.{State, position, Batch, closed, reading, writing, Choice, idle, passes_down, goes_on, begins_with, lower, lowest, some_of, next_of, reads_next, expired, or_oldest, first_of, new_batch, served_run, by_oldest, choice, chosen, at_tick}
-use Rattle.deadline.specs.Laws.{In, Lowest, NonePast, Open, NextKind, First, Goes_on, BeginsWith, NoFlushFirst, ByTheRules, CandidatesAreTheFreeRuns}
+use Rattle.deadline.specs.Turn.{State, position, Batch, closed, reading, writing, lower, lowest, some_of, next_of, reads_next, expired, or_oldest, first_of, new_batch, served_run, by_oldest, choice}
+use Rattle.deadline.specs.Laws.{In, Lowest, NonePast, Open, NextKind, First, NoFlushFirst, ByTheRules, CandidatesAreTheFreeRuns}
 use Rattle.deadline.proofs.KindFacts.{same_is, is_same}
 use Rattle.deadline.proofs.Members.{in_parts, in_back, of_those, in_those}
 use Rattle.deadline.proofs.Sound.{SoundFrom}

@@ -1,11 +1,11 @@
 -- What every submit and every turn keep of the waiting tickets.
-use Rattle.std.proofs.Common.{◌≡◌, ℕ, zero, suc, ◌+◌, ◌-◌, ◌*◌, ◌<◌, ◌≤◌, max, Bool, true, false, cond, not, ◌&&◌, ◌||◌, eqb, ltb, leb, ◌⊎◌, List, [], ◌∷◌, ◌++◌, sym, refl, ap, ◌∙◌, subst, inl, inr, arith}
-use Rattle.std.proofs.lemmas.Bool.{true≢false, both_ways, eqb-true, eqb-false, eq-eqb, ne_eqb, or_cases, or_parts, or_from, or_left, or_right, and_parts, and_from, and_left, and_right, and_cases, not-true, not_from_false, cases_Bool}
+use Rattle.std.proofs.Common.{◌≡◌, ℕ, ◌≤◌, max, Bool, true, false, cond, not, ◌&&◌, eqb, ◌⊎◌, List, [], ◌∷◌, ◌++◌, refl, ◌∙◌, inl, inr, arith}
+use Rattle.std.proofs.lemmas.Bool.{both_ways, eqb-true, eqb-false, ne_eqb, or_parts, or_from, and_parts, and_from, and_left, and_right, and_cases, not-true, not_from_false}
 use Rattle.device.specs.declared.interface.Kind.{Kind}
 use Rattle.device.specs.Meaning.{is_flush}
-use Rattle.deadline.specs.Waiting.{Queued, Run, any, those, is_in, same, has_tag, conflict}
+use Rattle.deadline.specs.Waiting.{Queued, any, is_in, same, has_tag, conflict}
 use Rattle.deadline.specs.Turn.{without}
-use Rattle.deadline.proofs.Lists.{any_without, any_within, any_stays, onto, any_onto_false, any_onto, any_mono}
+use Rattle.deadline.proofs.Lists.{any_without, any_within, any_stays, onto, any_mono}
 
 abbrev pub newest : List Queued → ℕ
 newest [] = 0

@@ -1,14 +1,14 @@
 -- The passed_over count is what it says, and never passes its limit.
-use Rattle.std.proofs.Common.{◌≡◌, ℕ, suc, ◌+◌, ◌<◌, ◌≤◌, Bool, true, false, cond, not, ◌&&◌, ◌⊎◌, List, [], ◌∷◌, sym, refl, ap, ◌∙◌, subst, inl, inr, arith}
-use Rattle.std.proofs.lemmas.Bool.{true≢false, both_ways}
+use Rattle.std.proofs.Common.{◌≡◌, ℕ, suc, ◌+◌, ◌≤◌, Bool, true, false, cond, ◌&&◌, List, [], ◌∷◌, sym, refl, ap, ◌∙◌, subst, arith}
+use Rattle.std.proofs.lemmas.Bool.{true≢false}
 use Rattle.device.specs.declared.interface.Kind.{Kind}
 use Rattle.device.specs.declared.interface.Kind.TheVariants.{Read, Write, Flush}
 use Rattle.device.specs.Meaning.{is_read, is_write}
-use Rattle.deadline.specs.Settings.{Settings, WithinLimits}
-use Rattle.deadline.specs.Waiting.{Run, free_runs}
+use Rattle.deadline.specs.Settings.{Settings}
+use Rattle.deadline.specs.Waiting.{free_runs}
 use Rattle.deadline.specs.Turn.{State, set_up, Choice, idle, passes_down, goes_on, begins_with, some_of, passed_over_by, after, at_tick, turned, chosen, submitted}
 use Rattle.deadline.specs.Events.{Event, submit, turn, collect, following, begins, begins_writing, passes_writes_over, how_many}
-use Rattle.deadline.specs.Laws.{NextKind, BeginsWith, ByTheRules, Counted, WritesAreNotStarved, WriteBatchesResetTheCount}
+use Rattle.deadline.specs.Laws.{NextKind, ByTheRules, WritesAreNotStarved, WriteBatchesResetTheCount}
 use Rattle.deadline.proofs.Reached.{Good, good_turned, good_submitted, good_set_up}
 use Rattle.deadline.proofs.Overtaking.{good_always}
 use Rattle.deadline.proofs.Dispatches.{submitted_alike, idle_alike, serves_as, rules_at}

@@ -1,5 +1,5 @@
 -- What is kept of the waiting tickets when a new one is taken. Nothing else looks at which run it joins or at runs that come to touch.
-use Rattle.std.proofs.Common.{◌≡◌, ℕ, suc, ◌≤◌, max, Bool, true, false, cond, ◌||◌, eqb, List, [], ◌∷◌, ◌++◌, sym, refl, ap, ◌∙◌, arith}
+use Rattle.std.proofs.Common.{◌≡◌, ℕ, suc, ◌≤◌, Bool, true, false, cond, eqb, List, [], ◌∷◌, ◌++◌, sym, refl, ap, arith}
 use Rattle.std.proofs.lemmas.Bool.{true≢false}
 use Rattle.deadline.specs.Settings.{Settings}
 use Rattle.deadline.specs.Waiting.{Queued, has_tag}

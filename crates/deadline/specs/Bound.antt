@@ -1,5 +1,5 @@
 -- How long a ticket can wait, over every list of events.
-use Rattle.std.specs.Prelude.{◌≡◌, ℕ, zero, suc, ◌+◌, ◌*◌, ◌≤◌, max, Bool, true, false, cond, List, [], ◌∷◌, ◌==◌}
+use Rattle.std.specs.Prelude.{◌≡◌, ℕ, zero, suc, ◌+◌, ◌*◌, ◌≤◌, max, true, false, cond, List, [], ◌∷◌, ◌==◌}
 use Rattle.device.specs.declared.interface.Kind.TheVariants.{Read, Write}
 use Rattle.deadline.specs.Settings.{Settings, WithinLimits, longer_period}
 use Rattle.deadline.specs.Waiting.{Queued, has_tag}

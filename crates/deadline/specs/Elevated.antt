@@ -1,5 +1,5 @@
 -- What an elevator means over a device when nothing waits in it, and which of its tickets are ready.
-use Rattle.std.specs.Prelude.{ℕ, cond, List, [], ◌∷◌}
+use Rattle.std.specs.Prelude.{cond, List, [], ◌∷◌}
 use Rattle.device.specs.Meaning.{Meaning, Ticket}
 use Rattle.device.specs.Layers.{layer_height, shut_over}
 use Rattle.device.specs.Sound.{most_tickets}

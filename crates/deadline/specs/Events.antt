@@ -1,7 +1,7 @@
 -- Lists of events: what can happen to the waiting tickets, and what becomes of them.
-use Rattle.std.specs.Prelude.{ℕ, suc, Bool, true, false, cond, not, ◌&&◌, List, [], ◌∷◌}
+use Rattle.std.specs.Prelude.{ℕ, suc, Bool, false, cond, ◌&&◌, List, [], ◌∷◌}
 use Rattle.device.specs.declared.interface.Kind.{Kind}
-use Rattle.device.specs.declared.interface.Kind.TheVariants.{Read, Write, Flush}
+use Rattle.device.specs.declared.interface.Kind.TheVariants.{Write}
 use Rattle.device.specs.Meaning.{is_read, is_write}
 use Rattle.deadline.specs.Settings.{Settings}
 use Rattle.deadline.specs.Waiting.{free_runs}

@@ -1,5 +1,5 @@
 -- Which waiting run a new ticket joins.
-use Rattle.std.specs.Prelude.{ℕ, ◌+◌, Bool, true, false, cond, not, ◌&&◌, ◌||◌, List, [], ◌∷◌, ◌++◌, ◌==◌, nat_le}
+use Rattle.std.specs.Prelude.{ℕ, ◌+◌, Bool, true, cond, not, ◌&&◌, List, [], ◌∷◌, ◌++◌, ◌==◌, nat_le}
 use Rattle.device.specs.Meaning.{is_flush, longest_run}
 use Rattle.deadline.specs.Settings.{Settings}
 use Rattle.deadline.specs.Waiting.{Queued, Run, any, those, same, end, ends, is_in, conflict, runs}

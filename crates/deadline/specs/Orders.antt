@@ -1,7 +1,6 @@
 -- Examples of what the turns serve, in order. A read, a write at a sector has the sector as its tag, and count 1 and tick 0
 -- unless said otherwise.
-use Rattle.std.specs.Prelude.{◌≡◌, ℕ, Bool, true, false, not, List, [], ◌∷◌, map}
-use Rattle.device.specs.declared.interface.Kind.{Kind}
+use Rattle.std.specs.Prelude.{◌≡◌, ℕ, true, false, not, List, [], ◌∷◌, map}
 use Rattle.device.specs.declared.interface.Kind.TheVariants.{Read, Write, Flush}
 use Rattle.deadline.specs.Settings.{Settings, usual}
 use Rattle.deadline.specs.Waiting.{Queued, those, has_tag}

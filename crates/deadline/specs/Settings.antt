@@ -1,5 +1,5 @@
 -- The settings of the deadline rules: their limits, and what five numbers make.
-use Rattle.std.specs.Prelude.{ℕ, ◌≤◌, max, Bool, true, false, cond, ◌&&◌, Ok, Err, Result, ◌==◌, nat_le}
+use Rattle.std.specs.Prelude.{ℕ, ◌≤◌, max, Bool, true, cond, ◌&&◌, Ok, Err, Result, ◌==◌, nat_le}
 use Rattle.device.specs.declared.interface.Kind.{Kind}
 use Rattle.device.specs.declared.interface.Kind.TheVariants.{Read, Write, Flush}
 use Rattle.deadline.specs.declared.settings.Settings as made

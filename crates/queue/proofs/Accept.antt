@@ -1,10 +1,9 @@
 -- Accepting a ticket, alone or into a run, keeps the queue's invariant.
-use Rattle.std.proofs.Common.{◌≡◌, ℕ, zero, suc, ◌+◌, ◌-◌, ◌*◌, ◌<◌, ◌≤◌, Bool, true, false, cond, not, ◌&&◌, ◌||◌, eqb, ltb, leb, ◌⊎◌, List, [], ◌∷◌, ◌++◌, sym, refl, ap, ◌∙◌, subst, ap₂, inl, inr, true≢false, arith}
-use mathlib.Core.Bool.{false≢true}
+use Rattle.std.proofs.Common.{◌≡◌, ℕ, ◌+◌, ◌≤◌, Bool, true, false, cond, eqb, ◌⊎◌, List, [], ◌∷◌, ◌++◌, sym, refl, ap, subst, inl, inr}
 use Rattle.std.proofs.lemmas.List.{append-nil}
-use Rattle.std.proofs.lemmas.Bool.{not-true, not_from_false, not_from_true, and_parts, and_from, both_ways, eqb-true, eq-eqb}
-use Rattle.device.specs.Meaning.{is_write, is_flush}
-use Rattle.queue.specs.Queue.{Entry, waits, hits, mine, of_run, All, Pairs, Apart}
+use Rattle.std.proofs.lemmas.Bool.{not_from_true, and_parts, both_ways, eqb-true, eq-eqb}
+use Rattle.device.specs.Meaning.{is_flush}
+use Rattle.queue.specs.Queue.{Entry, waits, mine, of_run, All, Pairs, Apart}
 use Rattle.queue.specs.Runs.{Spans, done, back, front, Row}
 use Rattle.queue.specs.Sound.{joined, Fits, Leaves, UnbrokenFrom, Unbroken, Rowed, Sound, Alone, Joins}
 

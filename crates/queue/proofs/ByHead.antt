@@ -1,12 +1,10 @@
 -- Free in the words of the rules is free.
-use Rattle.std.proofs.Common.{◌≡◌, ℕ, Bool, true, false, cond, not, ◌&&◌, ◌||◌, eqb, ltb, leb, ◌⊎◌, List, [], ◌∷◌, ◌++◌, sym, refl, ap, ◌∙◌, subst, ap₂, inl, inr, true≢false}
-use mathlib.Core.Bool.{false≢true}
-use Rattle.std.proofs.lemmas.Bool.{not-true, not_from_false, and_parts, and_from, or_cases, or_left, or_right, both_ways, eqb-true, eq-eqb}
+use Rattle.std.proofs.Common.{◌≡◌, ℕ, Bool, true, false, eqb, List, [], ◌∷◌, sym, refl, ap, ◌∙◌}
+use Rattle.std.proofs.lemmas.Bool.{and_parts, both_ways, eqb-true}
 use Rattle.device.specs.declared.interface.Kind.{Kind}
 use Rattle.device.specs.Meaning.{is_flush}
-use Rattle.queue.specs.Queue.{Entry, waits, mine, of_run, answered, serve, served, All, Pairs, Apart, Clear, Free, Kinded}
-use Rattle.queue.specs.Runs.{Row}
-use Rattle.queue.specs.Sound.{joined, Fits, Leaves, UnbrokenFrom, Unbroken, Sound, Alone, Joins, gone, ReadyAt, headed, Headed, Unflushed, Unconflicted}
+use Rattle.queue.specs.Queue.{Entry, waits, mine, All, Apart, Clear, Free, Kinded}
+use Rattle.queue.specs.Sound.{Leaves, UnbrokenFrom, Unbroken, Sound, Unflushed, Unconflicted}
 
 not_so : (b : Bool) → (b ≡ true → ⊥) → b ≡ false
 not_so true n = absurd (n refl)

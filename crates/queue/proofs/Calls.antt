@@ -1,15 +1,14 @@
 -- A turn of the elevator keeps the meaning of a turn, and so do a submit and a collect.
-use Rattle.std.proofs.Common.{◌≡◌, ℕ, zero, suc, ◌+◌, ◌-◌, ◌*◌, ◌<◌, ◌≤◌, min, Bool, true, false, cond, not, ◌&&◌, ◌||◌, eqb, ltb, leb, ◌⊎◌, List, [], ◌∷◌, ◌++◌, length, take, drop, sym, refl, ap, ◌∙◌, subst, ap₂, inl, inr, true≢false, add-zero, add-suc, arith, length-drop, take-append-drop, length-take-le}
-use mathlib.Core.Path.{fun_ext}
+use Rattle.std.proofs.Common.{◌≡◌, ℕ, ◌+◌, ◌-◌, ◌*◌, ◌<◌, ◌≤◌, Bool, true, false, cond, not, ◌&&◌, ◌||◌, ltb, leb, ◌⊎◌, List, [], ◌∷◌, ◌++◌, length, take, drop, sym, refl, ap, ◌∙◌, subst, ap₂, inl, inr, true≢false, arith, length-drop, take-append-drop, length-take-le}
 use mathlib.Core.Bool.{false≢true}
 use lib.Seq.{take-append-le, drop-append-le}
-use Rattle.std.proofs.lemmas.Bool.{not-true, not_from_false, not_from_true, and_parts, and_from, and_left, and_right, or_parts, or_from, or_left, or_right, or_cases, both_ways, leb-true, ltb-true, cases_Bool}
+use Rattle.std.proofs.lemmas.Bool.{not-true, not_from_false, and_parts, and_from, and_right, or_parts, or_from, or_left, or_right, or_cases, both_ways, leb-true, ltb-true, cases_Bool}
 use Rattle.device.specs.declared.interface.Kind.{Kind}
 use Rattle.device.specs.declared.interface.Kind.TheVariants.{Read, Write, Flush}
 use Rattle.device.specs.declared.interface.Request.{Request}
 use Rattle.device.specs.Meaning.{Meaning, Ticket, Contents, is_write, is_flush, covers, part, bytes_of, with_disk}
 use Rattle.device.specs.Layers.{layer_height}
-use Rattle.device.specs.Submit.{due_length, disk_after, due_bytes, ticket_of, accepted}
+use Rattle.device.specs.Submit.{disk_after, due_bytes, accepted}
 use Rattle.device.specs.Collect.{without}
 use Rattle.device.specs.Turns.{waiting, none_ready, flush_free, flush_order, waiting_write_at, open_write_at, Readied, none, stays, turns, Flushed, Turned}
 use Rattle.queue.specs.Queue.{Entry, waits, hits, puts, put, overlay, due_as, bytes_due, ticket, tickets_of, mine, of_run, answered, serve, served, All, Pairs, Clear, Free, Kinded, Alike, Right, Filled}
@@ -19,7 +18,7 @@ use Rattle.queue.specs.Over.{over, entry_of}
 use Rattle.queue.specs.Serve.{asked, sent, Served}
 use Rattle.queue.specs.Chosen.{Chosen}
 use Rattle.queue.proofs.Collect.{collect_disk, collect_tickets}
-use Rattle.queue.proofs.Overlay.{serve_disk, serve_tickets, overlay_more, tickets_more, due_answered}
+use Rattle.queue.proofs.Overlay.{serve_disk, serve_tickets, overlay_more, tickets_more}
 use Rattle.queue.proofs.Runs.{one_write, row_each, row_cover, unreached, bytes_length}
 use Rattle.queue.proofs.Sound.{serve_sound}
 use Rattle.queue.proofs.Gather.{gathered_is, WholeWrites, part_left}

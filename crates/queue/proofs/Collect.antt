@@ -1,10 +1,9 @@
 -- Collecting a ready ticket keeps the queue's invariant, the disk, and what the others are due.
-use Rattle.std.proofs.Common.{◌≡◌, ℕ, zero, suc, ◌+◌, ◌-◌, ◌*◌, ◌<◌, ◌≤◌, Bool, true, false, cond, not, ◌&&◌, ◌||◌, eqb, ltb, leb, ◌⊎◌, List, [], ◌∷◌, ◌++◌, sym, refl, ap, ◌∙◌, subst, ap₂, inl, inr, true≢false}
-use mathlib.Core.Bool.{false≢true}
+use Rattle.std.proofs.Common.{◌≡◌, ℕ, ◌-◌, Bool, true, false, cond, not, ◌&&◌, eqb, List, [], ◌∷◌, sym, refl, ap, subst}
 use Rattle.std.proofs.lemmas.Bool.{eqb-true}
-use Rattle.device.specs.Meaning.{Ticket, Contents, is_write, is_flush, part}
+use Rattle.device.specs.Meaning.{Contents, is_write, part}
 use Rattle.device.specs.Collect.{without}
-use Rattle.queue.specs.Queue.{Entry, waits, hits, puts, put, overlay, ticket, tickets_of, mine, of_run, All, Pairs, Apart}
+use Rattle.queue.specs.Queue.{Entry, hits, put, overlay, ticket, tickets_of, mine, of_run, All, Pairs}
 use Rattle.queue.specs.Sound.{Fits, Leaves, UnbrokenFrom, Unbroken, Rowed, Sound, gone, ReadyAt}
 
 all_gone : (P : Entry → Type 0) (t : ℕ) (es : List Entry) → All P es → All P (gone t es)

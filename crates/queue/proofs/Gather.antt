@@ -1,11 +1,10 @@
 -- The data of a run, put into one buffer ticket by ticket.
-use Rattle.std.proofs.Common.{◌≡◌, ℕ, zero, suc, ◌+◌, ◌-◌, ◌*◌, ◌<◌, ◌≤◌, Bool, true, false, cond, not, ◌&&◌, ◌||◌, eqb, ltb, leb, ◌⊎◌, List, [], ◌∷◌, ◌++◌, length, take, drop, sym, refl, ap, ◌∙◌, subst, ap₂, inl, inr, true≢false, add_assoc, arith, length-append, length-drop, take-append-drop, length-take, length-take-le}
-use mathlib.Core.Bool.{false≢true}
+use Rattle.std.proofs.Common.{◌≡◌, ℕ, ◌+◌, ◌-◌, ◌*◌, ◌<◌, ◌≤◌, Bool, true, false, cond, ◌&&◌, ltb, leb, ◌⊎◌, List, [], ◌∷◌, ◌++◌, length, take, drop, sym, refl, ap, ◌∙◌, subst, ap₂, inl, inr, arith, length-append, length-drop, take-append-drop, length-take-le}
 use lib.Seq.{take-append-le, drop-append-le, drop-append-add}
-use Rattle.std.proofs.lemmas.Bool.{cases_lt, and_parts, leb-true, ltb-true, le-leb, lt-leb, lt-ltb, le-ltb, and_from, and_left, and_right, both_ways}
+use Rattle.std.proofs.lemmas.Bool.{cases_lt, le-leb, lt-leb, lt-ltb, le-ltb, and_from, and_left, and_right}
 use Rattle.std.proofs.lemmas.Bool.Decides.{nat_tests}
 use Rattle.device.specs.Meaning.{Contents, is_write, covers, part}
-use Rattle.queue.specs.Queue.{Entry, waits, hits, puts, put, overlay, All, Apart}
+use Rattle.queue.specs.Queue.{Entry, waits, hits, puts, put, overlay, All}
 use Rattle.queue.specs.Runs.{no_bad, pasted, gathered}
 
 pub part_left : (p q : List ℕ) (i : ℕ) → i * 128 + 128 ≤ length p → part (p ++ q) i ≡ part p i

@@ -1,24 +1,24 @@
 -- A flush that is oldest, and a new ticket that stands alone or joins a run, among the open tickets.
-use Rattle.std.proofs.Common.{◌≡◌, ℕ, ◌+◌, ◌≤◌, Bool, true, false, cond, not, ◌&&◌, ◌||◌, eqb, leb, ◌⊎◌, List, [], ◌∷◌, ◌++◌, Some, None, Option, sym, refl, ap, ◌∙◌, subst, ap₂, inl, inr, append_assoc, arith}
-use Rattle.std.proofs.lemmas.Bool.{true≢false, both_ways, eqb-true, eq-eqb, ne_eqb, leb-true, or_left, or_right, and_parts, and_from, and_cases, not-true, not-false, not_from_false}
+use Rattle.std.proofs.Common.{◌≡◌, ℕ, ◌+◌, ◌≤◌, true, false, cond, not, ◌&&◌, eqb, leb, List, [], ◌∷◌, ◌++◌, Some, sym, refl, ap, ◌∙◌, subst, ap₂, inl, inr}
+use Rattle.std.proofs.lemmas.Bool.{true≢false, both_ways, eqb-true, eq-eqb, ne_eqb, leb-true, and_parts, and_cases, not-true, not-false, not_from_false}
 use Rattle.device.specs.declared.interface.Kind.{Kind}
 use Rattle.device.specs.declared.interface.Kind.TheVariants.{Read, Write, Flush}
 use Rattle.device.specs.Meaning.{is_flush, longest_run}
 use Rattle.device.specs.Submit.{fair_count}
 use Rattle.deadline.specs.declared.dispatch.Queued.{Queued}
 use Rattle.deadline.specs.declared.dispatch.Run.{Run}
-use Rattle.deadline.specs.Waiting.{any, same, end, ends, is_in, conflict, has_tag, run_of}
-use Rattle.deadline.specs.Joining.{has_flush, past_flushes, has_room, in_run}
+use Rattle.deadline.specs.Waiting.{any, same, is_in, conflict, has_tag}
+use Rattle.deadline.specs.Joining.{has_flush, past_flushes, in_run}
 use Rattle.deadline.specs.Laws.{In}
 use Rattle.deadline.proofs.KindFacts.{same_is}
 use Rattle.deadline.proofs.Members.{in_back}
 use Rattle.deadline.proofs.Lists.{any_in, not_in, any_mono}
 use Rattle.deadline.proofs.Sound.{heads, strange, SoundFrom, fresh_heads}
-use Rattle.deadline.proofs.Joined.{OfHead, head_waits, kin, FitsIn}
-use Rattle.queue.specs.Queue.{Entry, waits as is_waiting, mine, of_run, All, Pairs, Apart, Free, Kinded}
+use Rattle.deadline.proofs.Joined.{head_waits, kin, FitsIn}
+use Rattle.queue.specs.Queue.{Entry, waits as is_waiting, of_run, All, Pairs, Free, Kinded}
 use Rattle.queue.specs.Runs.{Spans, done, Row}
 use Rattle.queue.specs.Sound as queue
-use Rattle.queue.specs.Linked.{Same, Linked, none, ready, waits}
+use Rattle.queue.specs.Linked.{Same, Linked, ready, waits}
 use Rattle.queue.proofs.Accept.{of_run_none}
 use Rattle.queue.proofs.OfRun.{from_run}
 use Rattle.queue.proofs.Sound.{oldest_free}

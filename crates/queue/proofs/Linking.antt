@@ -1,21 +1,18 @@
 -- What the deadline rules say of the waiting tickets, for the open tickets of an elevator.
-use Rattle.std.proofs.Common.{◌≡◌, ℕ, suc, ◌+◌, ◌-◌, ◌<◌, ◌≤◌, min, Bool, true, false, cond, not, ◌&&◌, ◌||◌, eqb, ltb, leb, ◌⊎◌, List, [], ◌∷◌, ◌++◌, sym, refl, ap, ◌∙◌, subst, ap₂, inl, inr, append_assoc, arith}
-use Rattle.std.proofs.lemmas.Bool.{true≢false, both_ways, eqb-true, eqb-false, eq-eqb, ne_eqb, leb-true, ltb-true, lt-ltb, or_cases, or_parts, or_from, and_parts, and_from, and_cases, not-true, not-false, not_from_false, cases_Bool}
+use Rattle.std.proofs.Common.{◌≡◌, ℕ, ◌+◌, ◌≤◌, min, Bool, true, false, cond, not, ◌&&◌, ◌||◌, eqb, ltb, leb, ◌⊎◌, List, [], ◌∷◌, ◌++◌, sym, refl, ap, ◌∙◌, subst, ap₂, inl, inr, append_assoc, arith}
+use Rattle.std.proofs.lemmas.Bool.{both_ways, eq-eqb, leb-true, ltb-true, lt-ltb, or_cases, or_parts, or_from, and_parts, and_from, and_cases, not-true, not-false}
 use Rattle.device.specs.declared.interface.Kind.{Kind}
-use Rattle.device.specs.Meaning.{is_write, is_flush, covers, longest_run}
-use Rattle.deadline.specs.Settings.{Settings}
+use Rattle.device.specs.Meaning.{is_write, is_flush, longest_run}
 use Rattle.deadline.specs.declared.dispatch.Queued.{Queued}
 use Rattle.deadline.specs.declared.dispatch.Run.{Run}
-use Rattle.deadline.specs.Waiting.{any, same, end, ends, is_in, is_head, share_a_sector, conflict, lowest_sector, sectors, run_of, runs, before_flushes, unhindered, free, has_tag}
-use Rattle.deadline.specs.Joining.{has_flush, past_flushes, has_room, in_run, run_for}
+use Rattle.deadline.specs.Waiting.{any, same, end, is_in, share_a_sector, conflict, lowest_sector, sectors, run_of, before_flushes, unhindered, free}
 use Rattle.deadline.specs.Laws.{In, IsFree}
 use Rattle.deadline.proofs.KindFacts.{same_is}
-use Rattle.deadline.proofs.Members.{in_back, in_front}
-use Rattle.deadline.proofs.Lists.{any_in, not_in}
-use Rattle.deadline.proofs.Sound.{heads, strange, SoundFrom, fresh_heads}
-use Rattle.deadline.proofs.Joined.{OfHead, head_waits, kin, FitsIn, Joins, joins}
+use Rattle.deadline.proofs.Members.{in_back}
+use Rattle.deadline.proofs.Sound.{strange, SoundFrom}
+use Rattle.deadline.proofs.Joined.{OfHead, kin}
 use Rattle.deadline.proofs.FreeMeans.{free_means}
-use Rattle.queue.specs.Queue.{Entry, waits as is_waiting, hits, mine, of_run, All, Pairs, Apart, Free, Kinded}
+use Rattle.queue.specs.Queue.{Entry, waits as is_waiting, mine, of_run, All, Pairs, Apart, Free, Kinded}
 use Rattle.queue.specs.Runs.{Spans, done, back, front, Row}
 use Rattle.queue.specs.Sound as queue
 use Rattle.queue.specs.Linked.{Same, Linked, none, ready, waits}

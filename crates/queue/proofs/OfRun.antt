@@ -1,12 +1,12 @@
 -- The tickets of a run among all open ones.
-use Rattle.std.proofs.Common.{◌≡◌, ℕ, zero, suc, ◌+◌, ◌-◌, ◌*◌, ◌<◌, ◌≤◌, Bool, true, false, cond, not, ◌&&◌, ◌||◌, eqb, ltb, leb, List, [], ◌∷◌, ◌++◌, length, take, drop, sym, refl, ap, ◌∙◌, subst, ap₂, true≢false, arith}
+use Rattle.std.proofs.Common.{◌≡◌, ℕ, ◌+◌, ◌-◌, ◌*◌, ◌≤◌, Bool, true, false, cond, ◌&&◌, eqb, List, [], ◌∷◌, length, sym, refl, ap, ◌∙◌, arith}
 use mathlib.Core.Path.{fun_ext}
 use mathlib.Core.Bool.{false≢true}
-use Rattle.std.proofs.lemmas.Bool.{not-true, and_parts, and_from, both_ways, leb-true}
+use Rattle.std.proofs.lemmas.Bool.{not-true, and_parts, and_from, both_ways}
 use Rattle.device.specs.declared.interface.Kind.{Kind}
 use Rattle.device.specs.declared.interface.Kind.TheVariants.{Read, Write, Flush}
-use Rattle.device.specs.Meaning.{Contents, is_write, covers, part, bytes_of, written}
-use Rattle.queue.specs.Queue.{Entry, waits, hits, puts, put, overlay, due_as, bytes_due, mine, of_run, answered, All, Alike, Right, Filled}
+use Rattle.device.specs.Meaning.{Contents, is_write, part, bytes_of}
+use Rattle.queue.specs.Queue.{Entry, waits, puts, overlay, due_as, bytes_due, mine, of_run, answered, All, Alike, Right, Filled}
 use Rattle.queue.specs.Runs.{Row, Whole, stretch_in}
 use Rattle.queue.proofs.Runs.{row_each, stretch}
 use Rattle.queue.proofs.Gather.{WholeWrites}

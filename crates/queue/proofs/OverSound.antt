@@ -1,12 +1,12 @@
 -- What an elevator means is sound.
-use Rattle.std.proofs.Common.{◌≡◌, ℕ, ◌+◌, ◌-◌, ◌*◌, ◌<◌, ◌≤◌, min, Bool, true, false, cond, not, ◌&&◌, ◌||◌, eqb, ltb, leb, List, [], ◌∷◌, ◌++◌, length, take, drop, sym, refl, ap, ◌∙◌, subst, true≢false, arith, length-drop, length-take}
-use Rattle.std.proofs.lemmas.Bool.{and_parts, and_from, or_from, ne_eqb, not-true, not_from_false, leb-true, ltb-true, cond_both, and_right, not_from_true}
+use Rattle.std.proofs.Common.{◌≡◌, ℕ, ◌+◌, ◌-◌, ◌*◌, ◌<◌, ◌≤◌, Bool, true, false, cond, not, ◌&&◌, eqb, ltb, leb, List, [], ◌∷◌, length, drop, sym, refl, ap, ◌∙◌, subst, true≢false, arith, length-drop, length-take}
+use Rattle.std.proofs.lemmas.Bool.{and_parts, and_from, or_from, ne_eqb, not_from_false, leb-true, ltb-true, cond_both, and_right, not_from_true}
 use Rattle.device.specs.declared.interface.Kind.{Kind}
 use Rattle.device.specs.declared.interface.Kind.TheVariants.{Read, Write, Flush}
-use Rattle.device.specs.Meaning.{Meaning, Ticket, Contents, is_read, is_write, covers, part, bytes_of, zeros}
+use Rattle.device.specs.Meaning.{Meaning, Contents, is_read, is_write, part, bytes_of}
 use Rattle.device.specs.Submit.{tag_is_open}
 use Rattle.device.specs.Sound as device
-use Rattle.queue.specs.Queue.{Entry, waits, hits, puts, put, overlay, due_as, bytes_due, ticket, tickets_of, All, Pairs}
+use Rattle.queue.specs.Queue.{Entry, waits, hits, puts, put, overlay, due_as, tickets_of, All, Pairs}
 use Rattle.queue.specs.Runs.{reached}
 use Rattle.queue.specs.Sound.{Fits, Sound, Proper}
 use Rattle.queue.specs.Over.{over}

@@ -1,13 +1,13 @@
 -- Serving a free run leaves the disk and what every ticket is due.
-use Rattle.std.proofs.Common.{◌≡◌, ℕ, zero, suc, ◌+◌, ◌-◌, ◌*◌, ◌<◌, ◌≤◌, Bool, true, false, cond, not, ◌&&◌, ◌||◌, eqb, ltb, leb, List, [], ◌∷◌, ◌++◌, length, take, drop, sym, refl, ap, ◌∙◌, subst, ap₂, true≢false, arith}
+use Rattle.std.proofs.Common.{◌≡◌, ℕ, zero, suc, ◌+◌, ◌<◌, ◌≤◌, Bool, true, false, cond, not, ◌&&◌, eqb, ltb, leb, List, [], ◌∷◌, ◌++◌, sym, refl, ap, ◌∙◌, subst, ap₂, arith}
 use mathlib.Core.Path.{fun_ext}
 use mathlib.Core.Bool.{false≢true}
 use Rattle.std.proofs.lemmas.Bool.{not-true, and_parts, and_from, or_parts, both_ways, lt-ltb, le-leb}
 use Rattle.device.specs.declared.interface.Kind.{Kind}
 use Rattle.device.specs.declared.interface.Kind.TheVariants.{Read, Write, Flush}
-use Rattle.device.specs.Meaning.{Ticket, Contents, is_write, is_flush, covers, part, mask_of, bytes_of, written}
+use Rattle.device.specs.Meaning.{Ticket, Contents, is_write, covers, mask_of, bytes_of}
 use Rattle.device.specs.Turns.{Readied, none, stays, turns, made_ready}
-use Rattle.queue.specs.Queue.{Entry, waits, hits, puts, put, overlay, due_as, bytes_due, ticket, tickets_of, mine, of_run, answered, serve, served, All, Pairs, Apart, Clear, Free, Alike, Right}
+use Rattle.queue.specs.Queue.{Entry, waits, hits, puts, put, overlay, due_as, bytes_due, ticket, tickets_of, mine, of_run, answered, served, All, Apart, Clear, Free, Alike, Right}
 
 swap : {A : Type 0} (p q : Bool) (u v w : A) → (p ≡ true → q ≡ true → ⊥) → cond p u (cond q v w) ≡ cond q v (cond p u w)
 swap true true u v w no_both = absurd (no_both refl refl)

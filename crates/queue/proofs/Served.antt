@@ -1,18 +1,16 @@
 -- One submit, one turn and one collect below, from the meaning alone.
-use Rattle.std.proofs.Common.{◌≡◌, ℕ, zero, suc, ◌+◌, ◌-◌, ◌*◌, ◌<◌, ◌≤◌, min, Bool, true, false, cond, not, ◌&&◌, ◌||◌, eqb, ltb, leb, List, [], ◌∷◌, ◌++◌, length, take, drop, Some, None, Ok, Err, Option, Result, sym, refl, ap, ◌∙◌, subst, ap₂, true≢false, arith, length-take-le}
-use mathlib.Core.Bool.{false≢true}
-use Rattle.std.proofs.lemmas.Bool.{both_ways, le-ltb, eq-eqb, ne_eqb}
+use Rattle.std.proofs.Common.{◌≡◌, ℕ, ◌+◌, ◌-◌, ◌*◌, ◌<◌, ◌≤◌, min, Bool, true, false, cond, not, ◌&&◌, ◌||◌, eqb, ltb, List, [], ◌∷◌, ◌++◌, length, take, Some, None, Ok, Err, Result, sym, refl, ap, ◌∙◌, subst, true≢false, arith, length-take-le}
+use Rattle.std.proofs.lemmas.Bool.{le-ltb, eq-eqb, ne_eqb}
 use Rattle.device.specs.declared.interface.Kind.{Kind}
 use Rattle.device.specs.declared.interface.Kind.TheVariants.{Read, Write, Flush}
-use Rattle.device.specs.declared.interface.Cause.{Cause}
 use Rattle.device.specs.declared.interface.Cause.TheVariants as causes
 use Rattle.device.specs.declared.interface.Request.{Request}
 use Rattle.device.specs.declared.interface.Refusal.{Refusal}
-use Rattle.device.specs.Meaning.{Meaning, Ticket, Contents, is_write, is_flush, covers, part, mask_of, bytes_of, with_disk}
+use Rattle.device.specs.Meaning.{Meaning, Ticket, Contents, is_write, is_flush, covers, part, mask_of, with_disk}
 use Rattle.device.specs.Numbers.{kind_of, kind_number}
-use Rattle.device.specs.Submit.{fair_count, due_length, formed_as, form_as, form, tag_is_open, admitted_as, admitted, disk_after, due_bytes, ticket_of, accepted, submitted_as, submitted, submit_answer_as, submit_answer}
+use Rattle.device.specs.Submit.{due_length, form_as, form, tag_is_open, admitted_as, admitted, disk_after, due_bytes, ticket_of, submitted_as, submitted, submit_answer_as, submit_answer}
 use Rattle.device.specs.Collect.{found, without, due_as, due, collected_as, collected, buffer_as, buffer_after, collect_answer_as, collect_answer}
-use Rattle.device.specs.Turns.{waiting, waiting_write_at, open_write_at, Readied, none, stays, turns, made_ready, Flushed, Turned}
+use Rattle.device.specs.Turns.{waiting, waiting_write_at, Readied, none, stays, turns, made_ready, Flushed, Turned}
 use Rattle.device.specs.Told.{Told, submit, turn, collect}
 use Rattle.queue.specs.Serve.{asked, sent, Servable, Served, Called}
 use Rattle.queue.proofs.Runs.{bytes_length}

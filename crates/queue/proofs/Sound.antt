@@ -1,14 +1,12 @@
 -- The queue's invariant: kept by each step, and the oldest waiting ticket's run is free.
-use Rattle.std.proofs.Common.{◌≡◌, ℕ, zero, suc, ◌+◌, ◌-◌, ◌*◌, ◌<◌, ◌≤◌, Bool, true, false, cond, not, ◌&&◌, ◌||◌, eqb, ltb, leb, ◌⊎◌, List, [], ◌∷◌, ◌++◌, Some, None, Option, sym, refl, ap, ◌∙◌, subst, ap₂, inl, inr, true≢false, arith}
-use mathlib.Core.Path.{fun_ext}
+use Rattle.std.proofs.Common.{◌≡◌, ℕ, Bool, true, false, cond, eqb, List, [], ◌∷◌, Some, sym, refl, ap, ◌∙◌, subst, inl}
 use mathlib.Core.Bool.{false≢true}
-use Rattle.std.proofs.lemmas.Bool.{not-true, not_from_false, and_parts, and_from, or_parts, both_ways, eqb-true, eq-eqb, cases_Bool}
+use Rattle.std.proofs.lemmas.Bool.{not-true, not_from_false, and_parts, and_from, both_ways, eqb-true, eq-eqb}
 use Rattle.device.specs.declared.interface.Kind.{Kind}
-use Rattle.device.specs.declared.interface.Kind.TheVariants.{Read, Write, Flush}
-use Rattle.device.specs.Meaning.{Contents, is_write, is_flush, covers}
-use Rattle.queue.specs.Queue.{Entry, waits, hits, mine, of_run, answered, serve, served, All, Pairs, Apart, Clear, Free, Kinded}
-use Rattle.queue.specs.Runs.{Spans, done, back, front, Row}
-use Rattle.queue.specs.Sound.{joined, Fits, Leaves, UnbrokenFrom, Unbroken, Rowed, Sound, oldest}
+use Rattle.device.specs.declared.interface.Kind.TheVariants.{Read}
+use Rattle.device.specs.Meaning.{is_flush}
+use Rattle.queue.specs.Queue.{Entry, waits, mine, of_run, answered, serve, served, All, Pairs, Clear, Free, Kinded}
+use Rattle.queue.specs.Sound.{Fits, Leaves, UnbrokenFrom, Unbroken, Rowed, Sound, oldest}
 
 mine_waits : (r : ℕ) (e : Entry) → mine r e ≡ true → waits e ≡ true
 mine_waits r e m = (and_parts (waits e) (eqb e.run r) m).0

@@ -1,5 +1,5 @@
 -- What may be served of the open tickets.
-use Rattle.std.specs.Prelude.{◌≡◌, ℕ, ◌*◌, ◌≤◌, Bool, true, List, length}
+use Rattle.std.specs.Prelude.{◌≡◌, ℕ, ◌*◌, ◌≤◌, true, List, length}
 use Rattle.device.specs.declared.interface.Kind.{Kind}
 use Rattle.device.specs.Meaning.{is_write, sector_bytes}
 use Rattle.queue.specs.Queue.{Entry, of_run, Free, Kinded}

@@ -1,5 +1,5 @@
 -- What an elevator means: its open tickets over the device below.
-use Rattle.std.specs.Prelude.{ℕ, Bool, false, cond, List, []}
+use Rattle.std.specs.Prelude.{ℕ, Bool, false, cond, List}
 use Rattle.device.specs.declared.interface.Kind.{Kind}
 use Rattle.device.specs.declared.interface.Request.{Request}
 use Rattle.device.specs.Meaning.{Meaning}

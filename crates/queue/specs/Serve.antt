@@ -1,8 +1,7 @@
 -- One run or flush served by the device below: one submit, one turn and one collect, under tag 0 and at one tick.
-use Rattle.std.specs.Prelude.{◌≡◌, ℕ, ◌+◌, ◌<◌, ◌≤◌, Bool, true, false, ◌&&◌, List, [], ◌++◌, length, take, drop, Ok, Err, Result}
+use Rattle.std.specs.Prelude.{◌≡◌, ℕ, ◌+◌, ◌<◌, ◌≤◌, true, false, ◌&&◌, List, [], ◌++◌, length, take, drop, Ok}
 use Rattle.device.specs.declared.interface.Kind.{Kind}
 use Rattle.device.specs.declared.interface.Request.{Request}
-use Rattle.device.specs.declared.interface.Refusal.{Refusal}
 use Rattle.device.specs.Meaning.{Meaning, is_write, is_flush, covers, mask_of, sector_bytes}
 use Rattle.device.specs.Numbers.{kind_number}
 use Rattle.device.specs.Submit.{fair_count, due_length, disk_after, due_bytes}

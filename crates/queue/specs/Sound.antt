@@ -1,8 +1,8 @@
 -- What holds of the open tickets at all times.
-use Rattle.std.specs.Prelude.{◌≡◌, ℕ, zero, suc, ◌+◌, ◌-◌, ◌*◌, ◌<◌, ◌≤◌, Bool, true, false, cond, not, ◌&&◌, ◌||◌, ◌⊎◌, List, [], ◌∷◌, ◌++◌, length, Some, None, Option, ◌==◌, ◌≢◌}
+use Rattle.std.specs.Prelude.{◌≡◌, ℕ, ◌+◌, ◌*◌, ◌≤◌, Bool, true, false, cond, not, ◌&&◌, ◌||◌, ◌⊎◌, List, [], ◌∷◌, length, Some, None, Option, ◌==◌, ◌≢◌}
 use Rattle.device.specs.Meaning.{is_flush, longest_run, sector_bytes}
 use Rattle.device.specs.Submit.{fair_count}
-use Rattle.queue.specs.Queue.{Entry, waits, hits, mine, of_run, All, Pairs, Apart}
+use Rattle.queue.specs.Queue.{Entry, waits, mine, of_run, All, Pairs, Apart}
 use Rattle.queue.specs.Runs.{Row}
 
 -- a run goes by the tag of its head, so any other ticket of it has joined
