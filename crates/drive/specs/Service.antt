@@ -1,5 +1,5 @@
 -- What the service of a ticket costs on a drive, and what it leaves.
-use Rattle.std.specs.Prelude.{ℕ, ◌+◌, ◌-◌, ◌/◌, List, [], length, get_or, Some, None, Option, slice_index_or}
+use Rattle.std.specs.Prelude.{ℕ, ◌+◌, ◌-◌, ◌/◌, List, [], length, Some, None, Option, slice_index_or}
 use Rattle.device.specs.declared.interface.Kind.{Kind}
 use Rattle.device.specs.declared.interface.Kind.TheVariants.{Read, Write, Flush}
 use Rattle.device.specs.Meaning.{Contents}
@@ -53,16 +53,16 @@ row_as Flush named p es row = put_all named es row
 -- the same of a turn, by the place of the oldest waiting ticket, or none
 abbrev pub turn_ticks : Option ℕ → List Place → ℕ → List Entry → ℕ
 turn_ticks None ps arm es = 0
-turn_ticks (Some i) ps arm es = cost_as (get_or ps i blank).kind arm (slice_index_or ps i blank) es
+turn_ticks (Some i) ps arm es = cost_as (slice_index_or ps i blank).kind arm (slice_index_or ps i blank) es
 
 abbrev pub turn_arm : Option ℕ → List Place → ℕ → ℕ
 turn_arm None ps arm = arm
-turn_arm (Some i) ps arm = arm_as (get_or ps i blank).kind arm (slice_index_or ps i blank)
+turn_arm (Some i) ps arm = arm_as (slice_index_or ps i blank).kind arm (slice_index_or ps i blank)
 
 abbrev pub turn_entries : Option ℕ → List ℕ → List Place → List Entry → List Entry
 turn_entries None named ps es = es
-turn_entries (Some i) named ps es = entries_as (get_or ps i blank).kind named (slice_index_or ps i blank) es
+turn_entries (Some i) named ps es = entries_as (slice_index_or ps i blank).kind named (slice_index_or ps i blank) es
 
 abbrev pub turn_row : Option ℕ → List ℕ → List Place → List Entry → List ℕ → List ℕ
 turn_row None named ps es row = row
-turn_row (Some i) named ps es row = row_as (get_or ps i blank).kind named (slice_index_or ps i blank) es row
+turn_row (Some i) named ps es row = row_as (slice_index_or ps i blank).kind named (slice_index_or ps i blank) es row
