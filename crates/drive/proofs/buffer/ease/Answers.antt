@@ -7,9 +7,9 @@ use Rattle.drive.specs.Buffer.{full, younger, put_oldest}
 use Rattle.drive.proofs.Finding.{removed_younger, lies_at}
 use Rattle.drive.proofs.buffer.ease.Goals as goal
 
-first-put : (named : List ℕ) (es : List Entry) (row : List ℕ) (p : Entry) → 0 < length es → p ≡ get_or es 0 p → put_sector named p.sector p.bytes row ≡ put_oldest named es row
-first-put named [] row p lt is = absurd (omega arith)
-first-put named (e ∷ es) row p lt is = ap (λ z. put_sector named z.sector z.bytes row) is
+first_put : (named : List ℕ) (es : List Entry) (row : List ℕ) (p : Entry) → 0 < length es → p ≡ get_or es 0 p → put_sector named p.sector p.bytes row ≡ put_oldest named es row
+first_put named [] row p lt is = absurd (omega arith)
+first_put named (e ∷ es) row p lt is = ap (λ z. put_sector named z.sector z.bytes row) is
 
 pub write_sector-requires : goal.write_sector-requires
 write_sector-requires c =
@@ -30,7 +30,7 @@ returns-then-len-eq-BUFFERED c =
     let lt : 0 < length es = omega (arith, v.ok.0, c.if-len-eq-BUFFERED.true) in
     record {
       entries = c.remove-oldest.ensures.items ∙ (removed_younger es ∙ sym (cond-true (full es) (younger es) es f));
-      memory = c.write_sector.ensures ∙ (first-put c.args.named.now es c.args.memory.now p lt c.remove-oldest.ensures.value
+      memory = c.write_sector.ensures ∙ (first_put c.args.named.now es c.args.memory.now p lt c.remove-oldest.ensures.value
           ∙ sym (cond-true (full es) (put_oldest c.args.named.now es c.args.memory.now) c.args.memory.now f));
       capacity = c.remove-oldest.ensures.capacity;
     }

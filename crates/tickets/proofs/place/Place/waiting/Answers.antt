@@ -6,8 +6,8 @@ use Rattle.tickets.specs.Fresh.{placed}
 use Rattle.tickets.proofs.place.Place.waiting.Goals as goal
 
 -- as many of the bytes as fit, counted either way
-first-bytes : (given : List ℕ) (n : ℕ) → n ≡ min (length given) 1024 → (take n given ≡ take 1024 given) × (n ≡ length (take 1024 given))
-first-bytes given n e =
+first_bytes : (given : List ℕ) (n : ℕ) → n ≡ min (length given) 1024 → (take n given ≡ take 1024 given) × (n ≡ length (take 1024 given))
+first_bytes given n e =
     ⊎_elim
     (λ (h : 1024 < length given).
     let le : 1024 ≤ length given = omega arith in
@@ -21,7 +21,7 @@ first-bytes given n e =
 
 joined : (given xs base : List ℕ) (n : ℕ) → n ≡ min (length given) 1024 → xs ≡ take (n - 0) given → xs ++ drop (n - 0) base ≡ take 1024 given ++ drop (length (take 1024 given)) base
 joined given xs base n e x =
-    let f = first-bytes given n e in
+    let f = first_bytes given n e in
     ap (λ y. y ++ drop (n - 0) base) (x ∙ ap (λ w. take w given) (sub-zero n) ∙ f.0)
     ∙ ap (λ w. take 1024 given ++ drop w base) (sub-zero n ∙ f.1)
 
