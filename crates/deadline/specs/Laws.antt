@@ -79,7 +79,7 @@ pub record First (st : Settings) (s : State) (p : ℕ) (rs : List Run) (r : Run)
   pub urgent : expired st s oldest ≡ true → r ≡ oldest
   pub in_order : expired st s oldest ≡ false → Lowest p rs r ⊎ (NonePast p rs × (r ≡ oldest))
 
-pub record Goes_on (st : Settings) (s : State) (r : Run) : Type 0 where
+pub record GoesOn (st : Settings) (s : State) (r : Run) : Type 0 where
   pub open_batch : Open st s.batch r.kind
   pub lowest : Lowest (position r.kind s) (free_runs r.kind s.waiting) r
 
@@ -96,7 +96,7 @@ NoFlushFirst ws = (x : Queued) (younger : List Queued) → ws ≡ x ∷ younger 
 abbrev pub ByTheRules : Settings → State → Choice → Type 0
 ByTheRules st s idle = s.waiting ≡ []
 ByTheRules st s (passes_down t) = (x : Queued) × (younger : List Queued) × (s.waiting ≡ x ∷ younger) × (is_flush x.kind ≡ true) × (x.tag ≡ t)
-ByTheRules st s (goes_on r) = NoFlushFirst s.waiting × Goes_on st s r
+ByTheRules st s (goes_on r) = NoFlushFirst s.waiting × GoesOn st s r
 ByTheRules st s (begins_with r) = NoFlushFirst s.waiting × BeginsWith st s r
 
 abbrev pub TurnsFollowTheRules : Type 0
