@@ -9,3 +9,4 @@ pub mod Told
 pub mod Fault
 pub mod Layers
 pub mod Lookup
+pub mod Words

@@ -1,5 +1,5 @@
 -- The one number of each kind, cause and state.
-use Rattle.std.specs.Prelude.{ℕ, cond, Some, None, Option, ◌==◌}
+use Rattle.std.specs.Prelude.{ℕ, cond, Some, None, Option, Ok, Err, Result, ◌==◌}
 use Rattle.device.specs.declared.interface.Kind.{Kind}
 use Rattle.device.specs.declared.interface.Kind.TheVariants.{Read, Write, Flush}
 use Rattle.device.specs.declared.interface.Cause.{Cause}
@@ -18,6 +18,14 @@ kind_of n =
     cond (n == kind_number Read) (Some Read)
     (cond (n == kind_number Write) (Some Write)
     (cond (n == kind_number Flush) (Some Flush) None))
+
+abbrev pub kind_or_cause : Option Kind → Result Kind Cause
+kind_or_cause None = Err causes.BadKind
+kind_or_cause (Some k) = Ok k
+
+-- that kind, or the cause to refuse a number that names none
+abbrev pub named_kind : ℕ → Result Kind Cause
+named_kind n = kind_or_cause (kind_of n)
 
 abbrev pub cause_number : Cause → ℕ
 cause_number causes.BadKind = 1

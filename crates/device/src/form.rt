@@ -19,23 +19,25 @@ pub const MOST_SECTORS: usize = 65536;
 /// The most tickets that are open on a device at once.
 pub const MOST_TICKETS: u32 = 32;
 
-/// Whether the kind may have the run.
-fn fair_count(kind: Kind, first: u32, count: u32) -> bool
-    ensures { result ≡ fair_count kind first count }
-{
-    match kind {
-        Kind::Read | Kind::Write => 1 <= count && count <= LONGEST_RUN,
-        Kind::Flush => first == 0 && count == 0,
+impl Kind {
+    /// Whether the kind may have the run.
+    fn may_have(self, first: u32, count: u32) -> bool
+        ensures { result ≡ fair_count self first count }
+    {
+        match self {
+            Kind::Read | Kind::Write => (1..=LONGEST_RUN).contains(&count),
+            Kind::Flush => first == 0 && count == 0,
+        }
     }
-}
 
-/// The bytes that a request of the kind comes with.
-fn due_length(kind: Kind, count: u32) -> usize
-    ensures { result ≡ due_length kind count }
-{
-    match kind {
-        Kind::Write => count as usize * SECTOR,
-        Kind::Read | Kind::Flush => 0,
+    /// The bytes that a request of the kind comes with.
+    pub fn due_length(self, count: u32) -> usize
+        ensures { result ≡ due_length self count }
+    {
+        match self {
+            Kind::Write => count as usize * SECTOR,
+            Kind::Read | Kind::Flush => 0,
+        }
     }
 }
 
@@ -44,16 +46,14 @@ fn due_length(kind: Kind, count: u32) -> usize
 pub fn examine(request: Request, given: usize, size: u32) -> Result<Kind, Cause>
     ensures { result ≡ form size request given }
 {
-    let Some(kind) = Kind::from_number(request.kind) else {
-        return Err(Cause::BadKind);
-    };
-    if !fair_count(kind, request.first, request.count) {
+    let kind = Kind::try_from(request.kind)?;
+    if !kind.may_have(request.first, request.count) {
         return Err(Cause::BadCount);
     }
     if u64::from(request.first) + u64::from(request.count) > u64::from(size) {
         return Err(Cause::PastEnd);
     }
-    if given != due_length(kind, request.count) {
+    if given != kind.due_length(request.count) {
         return Err(Cause::BadLength);
     }
     Ok(kind)

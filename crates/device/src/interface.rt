@@ -8,7 +8,7 @@ pub enum Kind {
     Flush,
 }
 
-/// Why a call is refused. `number` has the one number of each.
+/// Why a call is refused. `u8::from` gives the one number of each.
 #[derive(Clone, Copy, PartialEq, Eq, Debug)]
 pub enum Cause {
     BadKind,
@@ -38,6 +38,8 @@ pub struct Home {
 }
 
 /// A request as its sender writes it; `kind` is 0 for a read, 1 for a write, 2 for a flush.
+// The kind is a number, by a rule of the project: every number is taken, and one above 2 is refused by `BadKind`.
+// First and count stay two numbers: each is judged and moved by itself, so that a struct of the two would be taken apart at each use.
 #[derive(Clone, Copy, PartialEq, Eq, Debug)]
 pub struct Request {
     pub tag: u32,

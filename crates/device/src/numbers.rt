@@ -1,40 +1,41 @@
 // The one number of each kind, cause and state.
 ghost use Rattle.std.specs.Prelude.{◌≡◌, ℕ};
-ghost use Rattle.device.specs.Numbers.{kind_number, kind_of, cause_number, state_number};
+ghost use Rattle.device.specs.Numbers.{kind_number, named_kind, cause_number, state_number};
 
 use crate::interface::{Cause, Kind, State};
 
-impl Kind {
-    /// The number of a kind.
-    pub fn number(self) -> u8
-        ensures { result ≡ kind_number self }
-    {
-        match self {
+impl From<Kind> for u8 {
+    ghost from_gives = { λ kind n. n ≡ kind_number kind };
+
+    fn from(kind: Kind) -> u8 {
+        match kind {
             Kind::Read => 0,
             Kind::Write => 1,
             Kind::Flush => 2,
         }
     }
+}
 
-    /// The kind that a number names, if it names one.
-    pub fn from_number(number: u8) -> Option<Kind>
-        ensures { result ≡ kind_of number }
-    {
+impl TryFrom<u8> for Kind {
+    type Error = Cause;
+
+    ghost try_from_gives = { λ n answer. answer ≡ named_kind n };
+
+    fn try_from(number: u8) -> Result<Kind, Cause> {
         match number {
-            0 => Some(Kind::Read),
-            1 => Some(Kind::Write),
-            2 => Some(Kind::Flush),
-            _ => None,
+            0 => Ok(Kind::Read),
+            1 => Ok(Kind::Write),
+            2 => Ok(Kind::Flush),
+            _ => Err(Cause::BadKind),
         }
     }
 }
 
-impl Cause {
-    /// The number of a cause.
-    pub fn number(self) -> u8
-        ensures { result ≡ cause_number self }
-    {
-        match self {
+impl From<Cause> for u8 {
+    ghost from_gives = { λ cause n. n ≡ cause_number cause };
+
+    fn from(cause: Cause) -> u8 {
+        match cause {
             Cause::BadKind => 1,
             Cause::BadCount => 2,
             Cause::PastEnd => 3,
@@ -48,12 +49,11 @@ impl Cause {
     }
 }
 
-impl State {
-    /// The number of a state.
-    pub fn number(self) -> u8
-        ensures { result ≡ state_number self }
-    {
-        match self {
+impl From<State> for u8 {
+    ghost from_gives = { λ state n. n ≡ state_number state };
+
+    fn from(state: State) -> u8 {
+        match state {
             State::NotOpen => 0,
             State::Waiting => 1,
             State::Ready => 2,
