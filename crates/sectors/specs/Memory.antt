@@ -1,11 +1,11 @@
 -- A row of bytes as sectors, some of them named bad.
-use Rattle.std.specs.Prelude.{ℕ, zero, suc, ◌+◌, ◌*◌, Bool, false, cond, ◌&&◌, ◌||◌, List, [], ◌∷◌, ◌++◌, take, drop, ◌==◌, nat_le}
+use Rattle.std.specs.Prelude.{ℕ, zero, suc, ◌+◌, ◌*◌, Bool, cond, ◌&&◌, List, ◌++◌, take, drop, ◌==◌, nat_le}
+use Rattle.std.specs.List.{list_any}
 use Rattle.device.specs.Meaning.{Contents, part, zeros, sector_bytes}
 
 -- the sector is among those named
 abbrev pub listed : ℕ → List ℕ → Bool
-listed s [] = false
-listed s (x ∷ xs) = x == s || listed s xs
+listed s named = list_any (λ x. x == s) named
 
 abbrev pub names : List ℕ → ℕ → Bool
 names named s = listed s named

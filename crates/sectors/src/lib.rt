@@ -1,5 +1,7 @@
 #![tactic(auto)]
 
-mod lent;
+mod named;
+mod row;
 
-pub use lent::{is_named, mask, read_run, write_run};
+pub use named::{is_named, mask};
+pub use row::{Row, read_run};

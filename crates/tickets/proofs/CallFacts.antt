@@ -1,7 +1,7 @@
 -- What each call of a device answers and leaves that serves its tickets in the order of acceptance. Assumes nothing.
 use Rattle.std.proofs.Common.{◌≡◌, ℕ, ◌+◌, ◌-◌, ◌*◌, ◌<◌, ◌≤◌, Bool, true, false, cond, not, ◌&&◌, eqb, ltb, leb, ◌⊎◌, List, [], ◌∷◌, ◌++◌, length, get_or, take, drop, set, replicate, Some, None, Ok, Err, Option, Result, sym, refl, ap, ◌∙◌, inl, inr, ⊎_elim, arith}
 use Rattle.std.proofs.lemmas.List.{take_at, length-take-le}
-use Rattle.std.proofs.lemmas.Bool.{cases_Bool, cond-true, cond-false, and_parts, ltb-true, leb-true, ltb-false}
+use Rattle.std.proofs.lemmas.Bool.{cases_Bool, cond_both, cond-true, cond-false, and_parts, ltb-true, leb-true, ltb-false}
 use Rattle.device.specs.declared.interface.Kind.{Kind}
 use Rattle.device.specs.declared.interface.Kind.TheVariants.{Read, Write, Flush}
 use Rattle.device.specs.declared.interface.Cause.{Cause}
@@ -30,7 +30,7 @@ use Rattle.sectors.proofs.Runs.{length_part, length_bytes}
 use Rattle.sectors.proofs.Parts.{bytes_same, mask_same, names_bad}
 use Rattle.tickets.specs.Front.{blank, filled, served, entry_as, admitted_as, admitted_to, answer_as, put_in, byte_room, due_place, mask_as, handed_as, rest_as, state_place, count_place}
 use Rattle.tickets.specs.Device.{meant_over}
-use Rattle.tickets.proofs.FrontFacts.{Fits, fits_from, room_short, due_waits, due_shorts, due_there}
+use Rattle.tickets.proofs.FrontFacts.{Fits, fits_from, room_short, due_waits, due_shorts, due_there, admitted_parts}
 
 -- contents of whole sectors
 abbrev pub Whole : Contents → Type 0
@@ -55,13 +55,9 @@ module _ (size : ℕ) (bad' : ℕ → Bool) where
         (λ h. ap length (cond-false (covers p.first p.count s && not (bad s)) (part (held p) (s - p.first)) (base s) h) ∙ w s)
         (cases_Bool (covers p.first p.count s && not (bad s)))
 
-    either_whole : (b : Bool) (x y : Contents) → Whole x → Whole y → Whole (cond b x y)
-    either_whole true x y a b = a
-    either_whole false x y a b = b
-
     pub after_whole : (p : Place) (base : Contents) → Fits size bad' p → Whole base → Whole (after bad p base)
     after_whole p base f w =
-        either_whole (not p.ready && is_write p.kind) (written bad p.first p.count (held p) base) base (written_whole p base f w) w
+        cond_both (not p.ready && is_write p.kind) (written bad p.first p.count (held p) base) base Whole (λ _. written_whole p base f w) (λ _. w)
 
     all_parts : (p : Place) (ps : List Place) → all_well size bad' (p ∷ ps) ≡ true → Fits size bad' p × (all_well size bad' ps ≡ true)
     all_parts p ps h = let a = and_parts (well size bad' p) (all_well size bad' ps) h in (fits_from size bad' p a.0, a.1)
@@ -85,13 +81,9 @@ module _ (size : ℕ) (bad' : ℕ → Bool) where
     bad_cond true false x y = refl
     bad_cond false c x y = refl
 
-    cond_at : (b : Bool) (f g : Contents) (s : ℕ) → cond b f g s ≡ cond b (f s) (g s)
-    cond_at true f g s = refl
-    cond_at false f g s = refl
-
     bad_after : (p : Place) (base : Contents) (s : ℕ) → bad s ≡ true → after bad p base s ≡ base s
     bad_after p base s h =
-        cond_at (not p.ready && is_write p.kind) (written bad p.first p.count (held p) base) base s
+        over.cond_at (not p.ready && is_write p.kind) (written bad p.first p.count (held p) base) base s
         ∙ (ap (λ b. cond (not p.ready && is_write p.kind) (cond (covers p.first p.count s && not b) (part (held p) (s - p.first)) (base s)) (base s)) h
         ∙ bad_cond (not p.ready && is_write p.kind) (covers p.first p.count s) (part (held p) (s - p.first)) (base s))
 
@@ -202,9 +194,6 @@ oldest_ready (Oldest.later h s) d = oldest_ready s d
 
 -- submit
 
-never : (A : Type 0) (B : Type 0) (c : Cause) (x : B) → ◌≡◌ {A = Result B Cause} (Err c) (Ok x) → A
-never A B c x e = let z : ◌≡◌ {A = ℕ} 0 1 = cc in absurd (omega arith)
-
 entry_same : (most : ℕ) (bad : ℕ → Bool) (ps : List Place) (base : Contents) (t : ℕ) (k : Kind) (o : Option ℕ) → index_of t ps ≡ o
     → ◌≡◌ {A = Result Kind Cause} (cond (tag_is_open t (tickets_over bad ps base)) (Err causes.TagOpen) (cond (eqb (length (tickets_over bad ps base)) most) (Err causes.Full) (Ok k))) (entry_as most o (length ps) k)
 entry_same most bad ps base t k (Some i) e =
@@ -218,18 +207,6 @@ entry_same most bad ps base t k None e =
 admitted_same : (size most : ℕ) (named : List ℕ) (ps : List Place) (base medium : Contents) (r : Result Kind Cause) (t : ℕ) → calls.admitted_as r (meant_over size most named ps base medium) t ≡ admitted_as most r ps t
 admitted_same size most named ps base medium (Err c) t = refl
 admitted_same size most named ps base medium (Ok k) t = entry_same most (bad_of size named) ps base t k (index_of t ps) refl
-
-full_kind : (b : Bool) (k k' : Kind) → ◌≡◌ {A = Result Kind Cause} (cond b (Err causes.Full) (Ok k)) (Ok k') → k ≡ k'
-full_kind true k k' e = never _ Kind causes.Full k' e
-full_kind false k k' e = cc
-
-entry_kind : (most : ℕ) (o : Option ℕ) (n : ℕ) (k k' : Kind) → entry_as most o n k ≡ Ok k' → k ≡ k'
-entry_kind most (Some i) n k k' e = never _ Kind causes.TagOpen k' e
-entry_kind most None n k k' e = full_kind (eqb n most) k k' e
-
-admitted_form : (most : ℕ) (r : Result Kind Cause) (ps : List Place) (t : ℕ) (k : Kind) → admitted_as most r ps t ≡ Ok k → r ≡ Ok k
-admitted_form most (Err c) ps t k e = never _ Kind c k e
-admitted_form most (Ok j) ps t k e = ap Ok (entry_kind most (index_of t ps) (length ps) j k e)
 
 module _ (size most : ℕ) (named : List ℕ) (ps : List Place) (base medium : Contents) where
   abbrev bad : ℕ → Bool
@@ -276,7 +253,7 @@ module _ (size most : ℕ) (named : List ℕ) (ps : List Place) (base medium : C
 
   pub submit_leaves : (q : Request) (d : List ℕ) → meant_over size most named (put_in (admitted_to size most ps q (length d)) ps named q d) base medium ≡ submitted device q d
   submit_leaves q d =
-      leaves_by q d (admitted_to size most ps q (length d)) (λ k e. admitted_form most (form size q (length d)) ps q.tag k e)
+      leaves_by q d (admitted_to size most ps q (length d)) (λ k e. (admitted_parts most (form size q (length d)) ps q.tag k e).0)
       ∙ ap (λ a. submitted_as a device q d) (sym (admitted_same size most named ps base medium (form size q (length d)) q.tag))
 
   answers_by : (a : Result Kind Cause) → answer_as a ≡ submit_answer_as a device

@@ -1,8 +1,8 @@
 -- What the front's calls rest on. Assumes nothing.
-use Rattle.std.proofs.Common.{◌≡◌, ℕ, ◌+◌, ◌*◌, ◌<◌, ◌≤◌, min, Bool, true, false, cond, ◌&&◌, eqb, ltb, leb, List, length, get_or, take, drop, set, replicate, is_some, Some, None, Ok, Err, Option, Result, sym, refl, ap, ◌∙◌, arith}
+use Rattle.std.proofs.Common.{◌≡◌, ℕ, ◌+◌, ◌*◌, ◌<◌, ◌≤◌, min, Bool, true, false, cond, ◌&&◌, eqb, ltb, leb, List, [], ◌∷◌, ◌++◌, length, get_or, take, drop, set, replicate, Some, None, Ok, Err, Option, Result, Vec, Global, vec_items, vec_capacity, sym, refl, ap, ◌∙◌, arith}
 use native.Mathlib.Nat.{min-eq_left}
-use Rattle.std.proofs.lemmas.List.{length-append, length-drop, length-replicate, length-set, take_all}
-use Rattle.std.proofs.lemmas.Bool.{and_parts, and_from, leb-true, le-leb, eqb-true, eq-eqb, cond-true, cond-false, lt-ltb, le-ltb, ltb-false}
+use Rattle.std.proofs.lemmas.List.{get_or_default, length-append, length-drop, length-replicate, length-set, take_all}
+use Rattle.std.proofs.lemmas.Bool.{and_parts, and_from, leb-true, le-leb, eqb-true, eqb-false, eq-eqb, cond-true, cond-false, lt-ltb, le-ltb, ltb-false}
 use Rattle.device.specs.declared.interface.Kind.{Kind}
 use Rattle.device.specs.declared.interface.Kind.TheVariants.{Read, Write, Flush}
 use Rattle.device.specs.declared.interface.Cause.{Cause}
@@ -10,24 +10,21 @@ use Rattle.device.specs.declared.interface.Cause.TheVariants as causes
 use Rattle.device.specs.declared.interface.Request.{Request}
 use Rattle.device.specs.Meaning.{Contents, mask_of, bytes_of, is_read}
 use Rattle.device.specs.Submit.{fair_count, form}
+use Rattle.device.specs.Sound.{most_sectors, most_tickets}
 use Rattle.device.proofs.Forms.{form_ok, fair_short, due_short}
 use Rattle.tickets.specs.declared.place.Place.{Place}
 use Rattle.tickets.specs.Places.{by_tag}
 use Rattle.tickets.specs.Fresh.{fresh}
 use Rattle.sectors.specs.Memory.{names}
 use Rattle.tickets.specs.declared.front.Front.{Front}
-use Rattle.tickets.specs.Meant.{well, all_well, place_of, has_tag, apart, in_turn}
-use Rattle.tickets.specs.Open.{places_of}
-use Rattle.tickets.proofs.Keeps.{apart_set, well_at, well_set, in_turn_serve}
+use Rattle.tickets.specs.Meant.{well, all_well, place_of, has_tag, apart, in_turn, less}
+use Rattle.tickets.specs.Open.{places_of, admission, Due}
+use Rattle.tickets.proofs.Keeps.{apart_push, apart_set, apart_less, well_at, well_push, well_set, well_less, in_turn_push, in_turn_serve, in_turn_less, length_less}
 use Rattle.tickets.specs.Places.{index_of, first_waiting}
-use Rattle.tickets.proofs.Stands.{Oldest, oldest, oldest_within, absent_place, absent_has, stands_place}
-use Rattle.device.proofs.Lookup.{Stands, stands}
-use Rattle.tickets.specs.Front.{filled, served, byte_room, due_place, entry_as, admitted_as}
+use Rattle.tickets.proofs.Stands.{Oldest, oldest, oldest_within, absent_has, stands_place}
+use Rattle.device.proofs.Lookup.{Stands, stands, stands_within}
+use Rattle.tickets.specs.Front.{blank, filled, served, byte_room, due_place, entry_as, admitted_as}
 use Rattle.sectors.proofs.Runs.{length_bytes}
-
-pub none_from : {A : Type 0} (o : Option A) → is_some o ≡ false → o ≡ None
-none_from None h = refl
-none_from (Some x) h = let z : ◌≡◌ {A = ℕ} 0 1 = cc in absurd (omega arith)
 
 -- what a well-kept place says
 pub record Fits (size : ℕ) (bad : ℕ → Bool) (p : Place) : Type 0 where
@@ -68,17 +65,6 @@ fresh_well size bad q k mask d e m =
     let z = length-replicate {A = ℕ} 1024 0 in
     well_from size bad (fresh q k mask d) f.0 f.1 m (omega (arith, n, r, z))
 
--- an accepted request's place has its whole mask and its whole data
-pub accepted_place : (size : ℕ) (bad : ℕ → Bool) (q : Request) (k : Kind) (mask : ℕ) (d : List ℕ) → form size q (length d) ≡ Ok k
-    → mask ≡ mask_of bad q.first (min q.count 8) → fresh q k mask (take 1024 d) ≡ fresh q k (mask_of bad q.first q.count) d
-accepted_place size bad q k mask d e m =
-    let f = form_ok size q (length d) k e in
-    let few = fair_short k q.first q.count f.0 in
-    let le = due_short k q.count few in
-    let short : length d ≤ 1024 = omega (arith, f.2, le) in
-    ap (λ x. fresh q k x (take 1024 d)) (m ∙ ap (mask_of bad q.first) (min-eq_left few))
-    ∙ ap (fresh q k (mask_of bad q.first q.count)) (take_all 1024 d short)
-
 filled_whole : (k : Kind) (sight : Contents) (p : Place) → length p.bytes ≡ 1024 → p.count ≤ 8 → ((s : ℕ) → s < p.first + p.count → length (sight s) ≡ 128) → length (filled k sight p) ≡ 1024
 filled_whole Read sight p w s h =
     let b = length_bytes sight p.first p.count h in
@@ -117,19 +103,9 @@ due_there o p room e h le =
     ∙ (cond-true p.ready (cond (ltb room (byte_room p)) (Err causes.ShortBuffer) (Ok p)) (Err causes.Waits) h
     ∙ cond-false (ltb room (byte_room p)) (Err causes.ShortBuffer) (Ok p) (le-ltb room (byte_room p) le))
 
-module _ (t i : ℕ) (ps : List Place) (r : Option ℕ) (e : r ≡ index_of t ps) where
-  pub at_tag : r ≡ Some i → Stands by_tag t ps i
-  at_tag h = stands by_tag t i ps (sym e ∙ h)
-
-  pub no_place : r ≡ None → place_of t ps ≡ None
-  no_place h = absent_place t ps (sym e ∙ h)
-
-  pub no_tag : r ≡ None → has_tag t ps ≡ false
-  no_tag h = absent_has t ps (sym e ∙ h)
-
-  -- the place that a look-up lends
-  pub lent_place : r ≡ Some i → (p : Place) → p ≡ get_or ps i p → place_of t ps ≡ Some p
-  lent_place h p is = stands_place (at_tag h) p ∙ ap Some (sym is)
+-- the place that a look-up lends
+pub lent_place : (t i : ℕ) (ps : List Place) (p : Place) → index_of t ps ≡ Some i → p ≡ get_or ps i p → place_of t ps ≡ Some p
+lent_place t i ps p e is = stands_place (stands by_tag t i ps e) p ∙ ap Some (sym is)
 
 pub at_oldest : (i : ℕ) (ps : List Place) (r : Option ℕ) → r ≡ first_waiting ps → r ≡ Some i → Oldest ps i
 at_oldest i ps r e h = oldest i ps (sym e ∙ h)
@@ -161,12 +137,33 @@ pub due_room : (o : Option Place) (room : ℕ) (q : Place) → due_place o room 
 due_room None room q e = never _ causes.NotOpen q e
 due_room (Some p) room q e = room_by_test p.ready (ltb room (byte_room p)) p q room refl e
 
--- what a front's places keep to once the oldest waiting one is served
+-- what a front's places keep to after a call
 pub record KeptPlaces (size most : ℕ) (bad : ℕ → Bool) (ps : List Place) : Type 0 where
   pub within : length ps ≤ most
   pub apart : apart ps ≡ true
   pub well : all_well size bad ps ≡ true
   pub turns : in_turn ps ≡ true
+
+-- so a front that is left with such places keeps to all that a front does
+pub front_keeps : (f : Front) (v : Vec Place Global) {ps : List Place} → KeptPlaces f.size f.capacity (names f.named) ps → vec_items v ≡ ps → f.capacity ≤ vec_capacity v →
+    record {
+      small : f.size ≤ most_sectors;
+      most : f.capacity ≤ most_tickets;
+      room : f.capacity ≤ vec_capacity v;
+      within : length (vec_items v) ≤ f.capacity;
+      apart : apart (vec_items v) ≡ true;
+      well : all_well f.size (names f.named) (vec_items v) ≡ true;
+      turns : in_turn (vec_items v) ≡ true;
+    }
+front_keeps f v kept items room = record {
+  small = f.small;
+  most = f.most;
+  room = room;
+  within = omega (arith, ap length items, kept.within);
+  apart = ap apart items ∙ kept.apart;
+  well = ap (all_well f.size (names f.named)) items ∙ kept.well;
+  turns = ap in_turn items ∙ kept.turns;
+}
 
 pub serve_keeps : (f : Front) (sight : Contents) (i : ℕ) (p q : Place) → ((s : ℕ) → s < f.size → length (sight s) ≡ 128)
     → Oldest (places_of f) i → p ≡ get_or (places_of f) i p → q ≡ served sight p → KeptPlaces f.size f.capacity (names f.named) (set (places_of f) i q)
@@ -180,3 +177,56 @@ serve_keeps f sight i p q h old is made =
       well = well_set f.size bad ps i q f.well (ap (well f.size bad) made ∙ served_well f.size bad sight p fit h);
       turns = in_turn_serve old q f.turns (ap (λ x. x.ready) made);
     }
+
+-- an admitted request leaves room for its place
+pub room_left : (f : Front) (q : Request) (n : ℕ) (k : Kind) → admission f q n ≡ Ok k → length (places_of f) < f.capacity
+room_left f q n k e =
+    let a = admitted_parts f.capacity (form f.size q n) (places_of f) q.tag k e in
+    omega (arith, eqb-false (length (places_of f)) f.capacity a.2, f.within)
+
+-- an admitted request's place has its whole mask and its whole data
+pub admitted_place : (f : Front) (q : Request) (d : List ℕ) (k : Kind) (mask : ℕ) → admission f q (length d) ≡ Ok k → mask ≡ mask_of (names f.named) q.first (min q.count 8)
+    → fresh q k mask (take 1024 d) ≡ fresh q k (mask_of (names f.named) q.first q.count) d
+admitted_place f q d k mask e m =
+    let made = form_ok f.size q (length d) k (admitted_parts f.capacity (form f.size q (length d)) (places_of f) q.tag k e).0 in
+    let few = fair_short k q.first q.count made.0 in
+    let short : length d ≤ 1024 = omega (arith, made.2, due_short k q.count few) in
+    ap (λ x. fresh q k x (take 1024 d)) (m ∙ ap (mask_of (names f.named) q.first) (min-eq_left few))
+    ∙ ap (fresh q k (mask_of (names f.named) q.first q.count)) (take_all 1024 d short)
+
+-- a place of an admitted request
+pub record Admitted (f : Front) (q : Request) (d : List ℕ) (p : Place) : Type 0 where
+  pub kind : Kind
+  pub ok : admission f q (length d) ≡ Ok kind
+  pub made : p ≡ fresh q kind (mask_of (names f.named) q.first q.count) d
+
+pub add_keeps : (f : Front) (q : Request) (d : List ℕ) (p : Place) → Admitted f q d p → KeptPlaces f.size f.capacity (names f.named) (places_of f ++ p ∷ [])
+add_keeps f q d p new =
+    let ps = places_of f in
+    let bad = names f.named in
+    let k = new.kind in
+    let made = new.made in
+    let a = admitted_parts f.capacity (form f.size q (length d)) ps q.tag k new.ok in
+    record {
+      within = omega (arith, length-append ps (p ∷ []), room_left f q (length d) k new.ok);
+      apart = apart_push ps p f.apart (ap (λ x. has_tag x.tag ps) made ∙ absent_has q.tag ps a.1);
+      well = well_push f.size bad ps p f.well (ap (well f.size bad) made ∙ fresh_well f.size bad q k _ d a.0 refl);
+      turns = in_turn_push ps p f.turns (ap (λ x. x.ready) made);
+    }
+
+pub less_keeps : (f : Front) (t i : ℕ) → Stands by_tag t (places_of f) i → KeptPlaces f.size f.capacity (names f.named) (less t (places_of f))
+less_keeps f t i at =
+    let ps = places_of f in
+    record {
+      within = omega (arith, length_less at, f.within);
+      apart = apart_less t ps f.apart;
+      well = well_less f.size (names f.named) t ps f.well;
+      turns = in_turn_less t ps f.turns;
+    }
+
+-- the answer of a place fits the room that it is handed over to
+pub answer_fits : (f : Front) (t i room : ℕ) (p : Place) → Due f t room (Ok i) → p ≡ get_or (places_of f) i p → byte_room p ≤ room
+answer_fits f t i room p due is =
+    let ps = places_of f in
+    let same = ap byte_room (is ∙ get_or_default ps i p blank (stands_within by_tag (stands by_tag t i ps due.0))) in
+    omega (arith, same, due_room (place_of t ps) room (get_or ps i blank) due.1)

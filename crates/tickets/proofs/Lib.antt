@@ -5,3 +5,4 @@ pub mod MeantFacts
 pub mod OldestFacts
 pub mod FrontFacts
 pub mod CallFacts
+pub mod KeptCalls

@@ -1,6 +1,8 @@
--- What a table of places means after each call. Assumes nothing.
+-- What a list of places means after each call. Assumes nothing.
 use Rattle.std.proofs.Common.{◌≡◌, ℕ, zero, suc, ◌+◌, ◌-◌, ◌<◌, Bool, true, false, cond, not, ◌&&◌, ◌||◌, eqb, List, [], ◌∷◌, ◌++◌, length, get_or, set, Some, None, sym, refl, ap, ◌∙◌, subst, arith}
-use Rattle.std.proofs.lemmas.Bool.{and_parts, and_from, or_parts, or_from, not-true, cond-true, cond-false, both_ways}
+use Rattle.std.proofs.Math.Bool.{and_assoc}
+use Rattle.std.proofs.lemmas.Bool.{and_parts, and_from, and_right, or_parts, or_from, not-true, cond-true, cond-false, both_ways}
+use Rattle.std.proofs.lemmas.Option.{none-some}
 use Rattle.device.specs.declared.interface.Kind.{Kind}
 use Rattle.device.specs.declared.interface.Kind.TheVariants.{Read, Write, Flush}
 use Rattle.device.specs.Meaning.{Contents, Ticket, is_write, is_flush, covers, written, bytes_of, part}
@@ -11,9 +13,9 @@ use Rattle.device.specs.Turns.{waiting, none_ready, waiting_write_at, open_write
 use Rattle.device.specs.Sound.{distinct}
 use Rattle.tickets.specs.declared.place.Place.{Place}
 use Rattle.tickets.specs.Places.{by_tag}
-use Rattle.tickets.specs.Places.{tag_of, waiting_from}
+use Rattle.tickets.specs.Places.{tag_of}
 use Rattle.tickets.specs.Meant.{held, after, owed_as, ticket, tickets_over, disk_over, has_tag, apart, all_wait, in_turn, less}
-use Rattle.tickets.proofs.Stands.{Oldest}
+use Rattle.tickets.proofs.Stands.{Oldest, waiting_from}
 use Rattle.device.proofs.Lookup.{Stands}
 use Rattle.tickets.proofs.Keeps.{wait_in_turn}
 
@@ -35,9 +37,9 @@ pub ready_ticket : (base base' : Contents) (p : Place) → p.ready ≡ true → 
 ready_ticket base base' p h =
     ap (with_bytes p) (ready_owed p.kind p.ready (held p) (bytes_of base p.first p.count) (bytes_of base' p.first p.count) h)
 
-and_false : (a b : Bool) → b ≡ false → (a && b) ≡ false
-and_false true b h = h
-and_false false b h = refl
+pub cond_at : (b : Bool) (f g : Contents) (s : ℕ) → cond b f g s ≡ cond b (f s) (g s)
+cond_at true f g s = refl
+cond_at false f g s = refl
 
 module _ (bad : ℕ → Bool) where
   pub length_over : (ps : List Place) (base : Contents) → length (tickets_over bad ps base) ≡ length ps
@@ -98,12 +100,9 @@ module _ (bad : ℕ → Bool) where
       ap (disk_over bad (set ps j q)) (after_ready bad p (after bad (get_or ps j d) base) h)
       ∙ (disk_serve s q d base r ∙ ap (disk_over bad ps) (sym (after_ready bad p base h)))
 
-  same_readied : (ts : List Ticket) → Readied ts ts
-  same_readied [] = Readied.none
-  same_readied (t ∷ ts) = Readied.stays (same_readied ts)
-
   pub readied_none : (ts : List Ticket) → Readied ts ts
-  readied_none ts = same_readied ts
+  readied_none [] = Readied.none
+  readied_none (t ∷ ts) = Readied.stays (readied_none ts)
 
   pub tickets_serve : {i : ℕ} {ps : List Place} → Oldest ps i → (q d : Place) (base base' : Contents) → q.ready ≡ true → base' ≡ after bad (get_or ps i d) base
       → ticket base' q ≡ made_ready (ticket base (get_or ps i d)) → Readied (tickets_over bad ps base) (tickets_over bad (set ps i q) base')
@@ -111,7 +110,7 @@ module _ (bad : ℕ → Bool) where
       let rest : tickets_over bad ps (after bad p base) ≡ tickets_over bad ps (after bad q base') = ap (tickets_over bad ps) (sym e ∙ sym (after_ready bad q base' r)) in
       let whole : made_ready (ticket base p) ∷ tickets_over bad ps (after bad p base) ≡ ticket base' q ∷ tickets_over bad ps (after bad q base') =
       ap (λ t. t ∷ tickets_over bad ps (after bad p base)) (sym m) ∙ ap (λ ts. ticket base' q ∷ ts) rest in
-      subst (Readied (tickets_over bad (p ∷ ps) base)) whole (Readied.turns h (same_readied (tickets_over bad ps (after bad p base))))
+      subst (Readied (tickets_over bad (p ∷ ps) base)) whole (Readied.turns h (readied_none (tickets_over bad ps (after bad p base))))
   tickets_serve (Oldest.later {p} {ps} {j} h s) q d base base' r e m =
       let one : ticket base p ≡ ticket base' p = ready_ticket base base' p h in
       let us : tickets_over bad (set ps j q) base' ≡ tickets_over bad (set ps j q) (after bad p base') = ap (tickets_over bad (set ps j q)) (sym (after_ready bad p base' h)) in
@@ -144,9 +143,9 @@ module _ (bad : ℕ → Bool) where
   oldest_waits (Oldest.later {p} {ps} h s) base z = oldest_waits s (after bad p base) (omega (arith, z))
 
   none_wait_by : (n : ℕ) (p : Place) (ps : List Place) (base : Contents) (ih : waiting_from (n + 1) ps ≡ None → waiting (tickets_over bad ps (after bad p base)) ≡ 0) (b : Bool)
-      → cond b (waiting_from (n + 1) ps) (Some n) ≡ None → cond b 0 1 + waiting (tickets_over bad ps (after bad p base)) ≡ 0
+      → cond (not b) (Some n) (waiting_from (n + 1) ps) ≡ None → cond b 0 1 + waiting (tickets_over bad ps (after bad p base)) ≡ 0
   none_wait_by n p ps base ih true e = let z = ih e in omega (arith, z)
-  none_wait_by n p ps base ih false e = let z : ◌≡◌ {A = ℕ} 0 1 = cc in absurd (omega arith)
+  none_wait_by n p ps base ih false e = absurd (none-some n (sym e))
 
   pub none_wait : (n : ℕ) (ps : List Place) (base : Contents) → waiting_from n ps ≡ None → waiting (tickets_over bad ps base) ≡ 0
   none_wait n [] base e = refl
@@ -187,19 +186,11 @@ module _ (bad : ℕ → Bool) where
   after_by true true b x y h = absurd (both_ways true h refl)
   after_by false c b x y h = refl
 
-  and_assoc : (a b c : Bool) → (a && (b && c)) ≡ ((a && b) && c)
-  and_assoc true b c = refl
-  and_assoc false b c = refl
-
-  cond_at : (b : Bool) (f g : Contents) (s : ℕ) → cond b f g s ≡ cond b (f s) (g s)
-  cond_at true f g s = refl
-  cond_at false f g s = refl
-
   pub after_at : (p : Place) (base : Contents) (s : ℕ) → (not p.ready && (is_write p.kind && covers p.first p.count s)) ≡ false → after bad p base s ≡ base s
   after_at p base s h =
       cond_at (not p.ready && is_write p.kind) (written bad p.first p.count (held p) base) base s
       ∙ after_by (not p.ready && is_write p.kind) (covers p.first p.count s) (not (bad s)) (part (held p) (s - p.first)) (base s)
-      (sym (and_assoc (not p.ready) (is_write p.kind) (covers p.first p.count s)) ∙ h)
+      (and_assoc (not p.ready) (is_write p.kind) (covers p.first p.count s) ∙ h)
 
   pub disk_at : (ps : List Place) (base : Contents) (s : ℕ) → waiting_write_at s (tickets_over bad ps base) ≡ false → disk_over bad ps base s ≡ base s
   disk_at [] base s h = refl
@@ -233,11 +224,11 @@ module _ (bad : ℕ → Bool) where
   open_waiting s (t ∷ ts) h =
       let o = or_parts (is_write t.kind && covers t.first t.count s) (open_write_at s ts) h in
       or_from (not t.ready && (is_write t.kind && covers t.first t.count s)) (waiting_write_at s ts)
-      (and_false (not t.ready) (is_write t.kind && covers t.first t.count s) o.0) (open_waiting s ts o.1)
+      (and_right (not t.ready) (is_write t.kind && covers t.first t.count s) o.0) (open_waiting s ts o.1)
 
-  flushed_same : (disk medium : Contents) (ts : List Ticket) → Flushed disk medium ts ts
-  flushed_same disk medium [] = tt
-  flushed_same disk medium (t ∷ ts) = ((λ f w r s o. absurd (both_ways t.ready w r)), flushed_same disk medium ts)
+  pub flushed_none : (disk medium : Contents) (ts : List Ticket) → Flushed disk medium ts ts
+  flushed_none disk medium [] = tt
+  flushed_none disk medium (t ∷ ts) = ((λ f w r s o. absurd (both_ways t.ready w r)), flushed_none disk medium ts)
 
   pub flushed_serve : {i : ℕ} {ps : List Place} → Oldest ps i → (q d : Place) (base base' medium' : Contents) → q.ready ≡ true → base' ≡ after bad (get_or ps i d) base
       → (is_flush (get_or ps i d).kind ≡ true → (s : ℕ) → medium' s ≡ base' s)
@@ -248,7 +239,7 @@ module _ (bad : ℕ → Bool) where
             all f s ∙ sym (ap (λ b. disk_over bad ps b s) same
             ∙ disk_at ps base' s (ap (λ b. waiting_write_at s (tickets_over bad ps b)) (sym same) ∙ open_waiting s (tickets_over bad ps (after bad q base')) o))),
         subst (λ b. Flushed (disk_over bad ps (after bad q base')) medium' (tickets_over bad ps b) (tickets_over bad ps (after bad q base')))
-            (same ∙ e) (flushed_same (disk_over bad ps (after bad q base')) medium' (tickets_over bad ps (after bad q base'))),
+            (same ∙ e) (flushed_none (disk_over bad ps (after bad q base')) medium' (tickets_over bad ps (after bad q base'))),
       )
   flushed_serve (Oldest.later {p} {ps} {j} h s) q d base base' medium' r e all =
       let same : base' ≡ after bad p base' = sym (after_ready bad p base' h) in
@@ -258,6 +249,3 @@ module _ (bad : ℕ → Bool) where
             (subst (λ b. Flushed (disk_over bad (set ps j q) base') medium' (tickets_over bad ps b) (tickets_over bad (set ps j q) base')) old
             (flushed_serve s q d base base' medium' r e all)),
       )
-
-  pub flushed_none : (disk medium : Contents) (ts : List Ticket) → Flushed disk medium ts ts
-  flushed_none disk medium ts = flushed_same disk medium ts

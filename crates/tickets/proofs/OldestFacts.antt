@@ -1,13 +1,13 @@
 -- Serving the oldest waiting place readies the oldest waiting ticket.
-use Rattle.std.proofs.Common.{◌≡◌, ℕ, ◌+◌, Bool, true, false, cond, List, [], ◌∷◌, get_or, set, Some, None, sym, refl, ap, ◌∙◌, arith}
+use Rattle.std.proofs.Common.{◌≡◌, ℕ, ◌+◌, Bool, true, false, cond, not, List, [], ◌∷◌, get_or, set, Some, None, sym, refl, ap, ◌∙◌}
 use Rattle.std.proofs.lemmas.Bool.{cond-true, cond-false}
+use Rattle.std.proofs.lemmas.Option.{none-some}
 use Rattle.device.specs.Meaning.{Contents}
 use Rattle.device.specs.Turns.{made_ready}
 use Rattle.tickets.specs.declared.place.Place.{Place}
-use Rattle.tickets.specs.Places.{waiting_from}
 use Rattle.tickets.specs.Meant.{after, ticket, tickets_over}
 use Rattle.tickets.specs.Oldest.{ready_oldest}
-use Rattle.tickets.proofs.Stands.{Oldest}
+use Rattle.tickets.proofs.Stands.{Oldest, waiting_from}
 use Rattle.tickets.proofs.MeantFacts.{after_ready, ready_ticket}
 
 module _ (bad : ℕ → Bool) where
@@ -25,10 +25,10 @@ module _ (bad : ℕ → Bool) where
       ∙ sym (cond-true p.ready (ticket base p ∷ ready_oldest (tickets_over bad ps (after bad p base))) (made_ready (ticket base p) ∷ tickets_over bad ps (after bad p base)) h))))
 
   none_by : (n : ℕ) (p : Place) (ps : List Place) (base : Contents) → (waiting_from (n + 1) ps ≡ None → ready_oldest (tickets_over bad ps (after bad p base)) ≡ tickets_over bad ps (after bad p base)) → (b : Bool)
-      → cond b (waiting_from (n + 1) ps) (Some n) ≡ None
+      → cond (not b) (Some n) (waiting_from (n + 1) ps) ≡ None
       → cond b (ticket base p ∷ ready_oldest (tickets_over bad ps (after bad p base))) (made_ready (ticket base p) ∷ tickets_over bad ps (after bad p base)) ≡ ticket base p ∷ tickets_over bad ps (after bad p base)
   none_by n p ps base ih true e = ap (λ ts. ticket base p ∷ ts) (ih e)
-  none_by n p ps base ih false e = let z : ◌≡◌ {A = ℕ} 0 1 = cc in absurd (omega arith)
+  none_by n p ps base ih false e = absurd (none-some n (sym e))
 
   -- where none waits, there is none to ready
   pub oldest_none : (n : ℕ) (ps : List Place) (base : Contents) → waiting_from n ps ≡ None → ready_oldest (tickets_over bad ps base) ≡ tickets_over bad ps base

@@ -4,6 +4,7 @@ use Rattle.device.specs.declared.interface.Kind.{Kind}
 use Rattle.device.specs.declared.interface.Kind.TheVariants.{Read, Write, Flush}
 use Rattle.device.specs.declared.interface.Cause.{Cause}
 use Rattle.device.specs.declared.interface.Cause.TheVariants as causes
+use Rattle.device.specs.declared.interface.Home.{Home}
 use Rattle.device.specs.declared.interface.State.{State}
 use Rattle.device.specs.declared.interface.State.TheVariants as states
 use Rattle.device.specs.declared.interface.Request.{Request}
@@ -84,6 +85,10 @@ handed_as (Err c) buffer = buffer
 abbrev pub rest_as : Result Place Cause → ℕ → List Place → List Place
 rest_as (Ok p) t ps = less t ps
 rest_as (Err c) t ps = ps
+
+-- the home of a sector of a bottom device of a size, or nothing beyond the last
+abbrev pub home_below : (size sector : ℕ) → Option Home
+home_below size s = cond (nat_lt s size) (Some (record { height = 0; sector = s })) None
 
 abbrev pub state_place : Option Place → State
 state_place None = states.NotOpen

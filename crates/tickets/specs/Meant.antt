@@ -1,6 +1,7 @@
--- What a table of places means on a device that serves its tickets in the order of acceptance,
+-- What a list of places means on a device that serves its tickets in the order of acceptance,
 -- so that a waiting read is due what lies below with the older waiting writes put on.
-use Rattle.std.specs.Prelude.{ℕ, ◌+◌, ◌*◌, Bool, true, false, cond, not, ◌&&◌, ◌||◌, List, [], ◌∷◌, length, take, Some, None, Option, ◌==◌, nat_le}
+use Rattle.std.specs.Prelude.{ℕ, ◌+◌, ◌*◌, Bool, true, cond, not, ◌&&◌, List, [], ◌∷◌, length, take, Option, ◌==◌, nat_le}
+use Rattle.std.specs.List.{list_any, list_all, find}
 use Rattle.device.specs.declared.interface.Kind.{Kind}
 use Rattle.device.specs.declared.interface.Kind.TheVariants.{Read, Write, Flush}
 use Rattle.device.specs.Meaning.{Contents, Ticket, is_write, written, bytes_of, mask_of, sector_bytes, run_bytes}
@@ -47,13 +48,11 @@ disk_over bad (p ∷ ps) base = disk_over bad ps (after bad p base)
 
 -- a tag is there
 abbrev pub has_tag : ℕ → List Place → Bool
-has_tag t [] = false
-has_tag t (p ∷ ps) = t == p.tag || has_tag t ps
+has_tag t ps = list_any (λ p. t == p.tag) ps
 
 -- the place of a tag
 abbrev pub place_of : ℕ → List Place → Option Place
-place_of t [] = None
-place_of t (p ∷ ps) = cond (t == p.tag) (Some p) (place_of t ps)
+place_of t ps = find (λ p. t == p.tag) ps
 
 -- no tag twice
 abbrev pub apart : List Place → Bool
@@ -65,12 +64,10 @@ abbrev pub well : ℕ → (ℕ → Bool) → Place → Bool
 well size bad p = fair_count p.kind p.first p.count && (nat_le (p.first + p.count) size && (p.mask == mask_of bad p.first p.count && length p.bytes == run_bytes))
 
 abbrev pub all_well : ℕ → (ℕ → Bool) → List Place → Bool
-all_well size bad [] = true
-all_well size bad (p ∷ ps) = well size bad p && all_well size bad ps
+all_well size bad ps = list_all (well size bad) ps
 
 abbrev pub all_wait : List Place → Bool
-all_wait [] = true
-all_wait (p ∷ ps) = not p.ready && all_wait ps
+all_wait ps = list_all (λ p. not p.ready) ps
 
 -- no ready place stands behind a waiting one
 abbrev pub in_turn : List Place → Bool

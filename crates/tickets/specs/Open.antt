@@ -11,7 +11,7 @@ use Rattle.tickets.specs.Places.{index_of, first_waiting}
 
 -- the places of the open tickets, the oldest first
 abbrev pub places_of : Front → List Place
-places_of f = vec_items f.table.places
+places_of f = vec_items f.places
 
 -- where the oldest waiting ticket stands
 abbrev pub oldest_of : Front → Option ℕ

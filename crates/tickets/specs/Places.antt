@@ -1,5 +1,7 @@
 -- What is asked of a list of places.
-use Rattle.std.specs.Prelude.{ℕ, zero, suc, ◌+◌, cond, List, [], ◌∷◌, Some, None, Option}
+use Rattle.std.specs.Prelude.{ℕ, not, List, Option, slice_get}
+use Rattle.std.specs.List.{position_from}
+use Rattle.std.specs.Option.{option_map}
 use Rattle.device.specs.Lookup.{index_by}
 use Rattle.tickets.specs.declared.place.Place.{Place}
 
@@ -11,16 +13,10 @@ by_tag p = p.tag
 abbrev pub index_of : ℕ → List Place → Option ℕ
 index_of t ps = index_by by_tag 0 t ps
 
--- where the oldest that waits stands, counted from n
-abbrev pub waiting_from : ℕ → List Place → Option ℕ
-waiting_from n [] = None
-waiting_from n (p ∷ ps) = cond p.ready (waiting_from (n + 1) ps) (Some n)
-
+-- where the oldest that waits stands
 abbrev pub first_waiting : List Place → Option ℕ
-first_waiting ps = waiting_from 0 ps
+first_waiting ps = position_from (λ p. not p.ready) 0 ps
 
 -- the tag at the i-th place, from 0
 abbrev pub tag_of : ℕ → List Place → Option ℕ
-tag_of i [] = None
-tag_of zero (p ∷ ps) = Some p.tag
-tag_of (suc i) (p ∷ ps) = tag_of i ps
+tag_of i ps = option_map (λ p. p.tag) (slice_get ps i)

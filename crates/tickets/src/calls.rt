@@ -2,16 +2,14 @@
 ghost use Rattle.std.specs.Prelude.{◌≡◌, ℕ, ◌≤◌, min, [], ◌++◌, length, take, drop, IfOk, Ok};
 ghost use Rattle.device.specs.Sound.{most_sectors, most_tickets};
 ghost use Rattle.std.specs.Option.{option_map};
-ghost use Rattle.device.specs.Meaning.{run_bytes};
 ghost use Rattle.tickets.specs.Meant.{place_of, less};
-ghost use Rattle.tickets.specs.Front.{at_bottom, answer_as, put_in, mask_as, handed_as, rest_as, state_place, count_place};
-ghost use Rattle.tickets.specs.Places.{tag_of, first_waiting};
-ghost use Rattle.tickets.specs.Open.{places_of, place_at, admission, answered_place, Due, SameFront};
+ghost use Rattle.tickets.specs.Front.{at_bottom, answer_as, put_in, mask_as, handed_as, rest_as, state_place, count_place, home_below};
+ghost use Rattle.tickets.specs.Places.{index_of, tag_of, first_waiting};
+ghost use Rattle.tickets.specs.Open.{places_of, admission, answered_place, Due, SameFront};
 
 use crate::front::Front;
 use crate::place::Place;
-use crate::table::Table;
-use device::{Cause, Kind, MOST_SECTORS, MOST_TICKETS, Refusal, Request, State, examine};
+use device::{Cause, Home, Kind, MOST_SECTORS, MOST_TICKETS, Refusal, Request, State, examine};
 use sectors::mask;
 use std::alloc::{AllocError, Global};
 
@@ -20,15 +18,6 @@ fn at_bottom(cause: Cause) -> Refusal
     ensures { result ≡ at_bottom cause }
 {
     Refusal { cause, height: 0 }
-}
-
-/// Copies the first bytes of a place to the front of a buffer.
-fn hand(place: &Place, n: usize, buffer: &mut [u8])
-    requires short { n ≤ run_bytes }
-    requires fits { n ≤ length buffer.old }
-    ensures { buffer.new ≡ take n place.now.bytes ++ drop n buffer.old }
-{
-    buffer[0..n].copy_from_slice(&place.bytes[0..n]);
 }
 
 impl Front {
@@ -43,12 +32,12 @@ impl Front {
     {
         let size = sectors.min(MOST_SECTORS) as u32;
         let capacity = capacity.min(MOST_TICKETS);
-        let table = Table::new(heap, capacity as usize)?;
+        let places = Vec::with_capacity(heap, capacity as usize)?;
         Ok(Front {
             size,
             capacity,
             named,
-            table,
+            places,
         })
     }
 
@@ -56,21 +45,35 @@ impl Front {
     pub fn open_tickets(&self) -> u32
         ensures { result ≡ length (places_of self.now) }
     {
-        self.table.places.len() as u32
+        self.places.len() as u32
     }
 
     /// The tag of the i-th oldest ticket, from 0.
     pub fn tag_at(&self, i: u32) -> Option<u32>
         ensures { result ≡ tag_of i (places_of self.now) }
     {
-        self.table.tag_at(i as usize)
+        self.places.get(i as usize).map(|place| place.tag)
+    }
+
+    /// Where the ticket of a tag stands.
+    fn find(&self, tag: u32) -> Option<usize>
+        ensures { result ≡ index_of tag (places_of self.now) }
+    {
+        self.places.iter().position(|place| place.tag == tag)
     }
 
     /// Where the oldest ticket that waits stands.
     pub fn oldest_waiting(&self) -> Option<usize>
         ensures { result ≡ first_waiting (places_of self.now) }
     {
-        self.table.oldest_waiting()
+        self.places.iter().position(|place| !place.ready)
+    }
+
+    /// The place of a tag.
+    fn place(&self, tag: u32) -> Option<&Place>
+        ensures { option_map (λ x. x.now) result ≡ place_of tag (places_of self.now) }
+    {
+        self.places.iter().find(|place| place.tag == tag)
     }
 
     /// The kind under which a request is accepted, or the first cause to refuse it.
@@ -78,24 +81,13 @@ impl Front {
         ensures { result ≡ admission self.now request given }
     {
         let kind = examine(request, given, self.size)?;
-        if self.table.find(request.tag).is_some() {
+        if self.find(request.tag).is_some() {
             return Err(Cause::TagOpen);
         }
-        if self.table.places.len() == self.capacity as usize {
+        if self.places.len() == self.capacity as usize {
             return Err(Cause::Full);
         }
         Ok(kind)
-    }
-
-    /// Adds the ticket of an admitted request.
-    fn add(&mut self, request: Request, kind: Kind, bytes: &[u8])
-        requires { admission self.old request (length bytes.now) ≡ Ok kind }
-        ensures places { places_of self.new ≡ put_in (Ok kind) (places_of self.old) self.old.named request bytes.now }
-        ensures shape { SameFront self.old self.new }
-    {
-        let mask = mask(&self.named, request.first, request.count);
-        let place = Place::waiting(request, kind, mask, bytes);
-        self.table.places.push_reserved(place);
     }
 
     /// Adds the ticket of a request, or refuses it at height 0.
@@ -104,46 +96,26 @@ impl Front {
         ensures places { places_of self.new ≡ put_in (admission self.old request (length bytes.now)) (places_of self.old) self.old.named request bytes.now }
         ensures shape { SameFront self.old self.new }
     {
-        match self.admit(request, bytes.len()) {
-            Err(cause) => Err(at_bottom(cause)),
-            Ok(kind) => {
-                self.add(request, kind, bytes);
-                Ok(())
-            }
-        }
+        let kind = self.admit(request, bytes.len()).map_err(at_bottom)?;
+        let mask = mask(&self.named, request.first, request.count);
+        let place = Place::waiting(request, kind, mask, bytes);
+        self.places.push_reserved(place);
+        Ok(())
     }
 
     /// Where the ticket stands that a collect into so much room answers, or the first cause to refuse it.
     fn due(&self, tag: u32, room: usize) -> Result<usize, Cause>
         ensures { Due self.now tag room result }
     {
-        let Some(i) = self.table.find(tag) else {
-            return Err(Cause::NotOpen);
-        };
-        let place = &self.table.places[i];
+        let i = self.find(tag).ok_or(Cause::NotOpen)?;
+        let place = &self.places[i];
         if !place.ready {
             return Err(Cause::Waits);
         }
-        let n = place.byte_count();
-        if room < n {
+        if room < place.byte_count() {
             return Err(Cause::ShortBuffer);
         }
         Ok(i)
-    }
-
-    /// Takes the i-th ticket out, and hands its bytes over.
-    fn take_out(&mut self, tag: u32, i: usize, buffer: &mut [u8]) -> u8
-        requires { Due self.old tag (length buffer.old) (Ok i) }
-        ensures mask { result ≡ (place_at self.old i).mask }
-        ensures hands { buffer.new ≡ handed_as (Ok (place_at self.old i)) buffer.old }
-        ensures places { places_of self.new ≡ less tag (places_of self.old) }
-        ensures shape { SameFront self.old self.new }
-    {
-        let place = &self.table.places[i];
-        let n = place.byte_count();
-        hand(place, n, buffer);
-        let done = self.table.places.remove(i);
-        done.mask
     }
 
     /// Takes a ready ticket out and hands its answer over, or refuses at height 0.
@@ -153,39 +125,30 @@ impl Front {
         ensures places { places_of self.new ≡ rest_as (answered_place self.old tag (length buffer.old)) tag (places_of self.old) }
         ensures shape { SameFront self.old self.new }
     {
-        match self.due(tag, buffer.len()) {
-            Err(cause) => Err(at_bottom(cause)),
-            Ok(i) => Ok(self.take_out(tag, i, buffer)),
-        }
-    }
-
-    /// The place of a tag.
-    fn place(&self, tag: u32) -> Option<&Place>
-        ensures { option_map (λ x. x.now) result ≡ place_of tag (places_of self.now) }
-    {
-        match self.table.find(tag) {
-            Some(i) => Some(&self.table.places[i]),
-            None => None,
-        }
+        let i = self.due(tag, buffer.len()).map_err(at_bottom)?;
+        let place = self.places.remove(i);
+        place.hand_over(buffer);
+        Ok(place.mask)
     }
 
     /// How far the ticket of a tag has come.
     pub fn state(&self, tag: u32) -> State
         ensures { result ≡ state_place (place_of tag (places_of self.now)) }
     {
-        match self.place(tag) {
-            None => State::NotOpen,
-            Some(place) => place.state(),
-        }
+        self.place(tag).map_or(State::NotOpen, Place::state)
     }
 
     /// The bytes that a read of the tag gives, else 0.
-    pub fn byte_count(&self, tag: u32) -> usize
+    pub fn byte_count(&self, tag: u32) -> u32
         ensures { result ≡ count_place (place_of tag (places_of self.now)) }
     {
-        match self.place(tag) {
-            None => 0,
-            Some(place) => place.byte_count(),
-        }
+        self.place(tag).map_or(0, Place::byte_count) as u32
+    }
+
+    /// The home of a sector, which lies on the device itself, or nothing beyond the last.
+    pub fn home(&self, sector: u32) -> Option<Home>
+        ensures { result ≡ home_below self.now.size sector }
+    {
+        (sector < self.size).then_some(Home { height: 0, sector })
     }
 }

@@ -1,7 +1,0 @@
-use Rattle.std.proofs.Common.{◌≡◌, ◌*◌, ◌++◌, drop}
-use Rattle.device.specs.Meaning.{bytes_of}
-use Rattle.sectors.specs.Memory.{seen}
-use Rattle.sectors.proofs.lent.read_sectors.Given as goal
-
-abbrev pub invariant-loop-i : goal.invariant-loop-i
-invariant-loop-i l = l.into ≡ bytes_of (seen l.named l.memory) l.first l.i ++ drop (l.i * 128) l.initial.into
