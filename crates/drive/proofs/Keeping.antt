@@ -1,14 +1,16 @@
 -- What holds of the buffer goes on holding when sectors are brought in.
-use Rattle.std.proofs.Common.{◌≡◌, ℕ, zero, suc, ◌+◌, ◌*◌, ◌<◌, ◌≤◌, true, false, cond, not, ◌&&◌, ◌||◌, eqb, leb, List, [], ◌∷◌, ◌++◌, length, sym, refl, ap, ◌∙◌, arith}
-use Rattle.std.proofs.lemmas.List.{length-append}
+use Rattle.std.proofs.Common.{◌≡◌, ℕ, zero, suc, ◌+◌, ◌*◌, ◌<◌, ◌≤◌, true, false, not, ◌&&◌, ◌||◌, eqb, leb, List, [], ◌∷◌, ◌++◌, length, get_or, sym, refl, ap, ◌∙◌, subst, arith}
+use Rattle.std.proofs.lemmas.List.{length-append, length-drop}
+use Rattle.std.proofs.lemmas.List.Recursion.{and_at, and_push, and_from_places, or_push}
 use Rattle.std.proofs.lemmas.Bool.{and_parts, and_from, or_parts, or_from, not-true, not_from_false, eqb-true, eqb-false, eq-eqb, ne_eqb, le-leb, cond_both}
 use Rattle.device.specs.Meaning.{part}
 use Rattle.sectors.specs.Memory.{listed, put_sector}
 use Rattle.sectors.proofs.Runs.{length_part}
 use Rattle.sectors.proofs.Parts.{length_sector}
-use Rattle.drive.specs.SoundFacts.{lies_parts}
+use Rattle.drive.specs.SoundFacts.{Fits, lies_parts}
 use Rattle.drive.specs.declared.buffer.Entry.{Entry}
-use Rattle.drive.specs.Buffer.{entry, stands_in, renewed, full, younger, put_oldest, eased, brought_in, put_out, brought_run, put_out_run, put_all, lies, all_lie, all_good, single}
+use Rattle.drive.specs.declared.buffer.Buffer.{Buffer}
+use Rattle.drive.specs.Buffer.{entry, stands_in, renewed, full, younger, put_oldest, eased, pushed_out, brought_in, put_out, brought_run, put_out_run, put_all, lies, all_lie, all_good, single}
 
 -- renewed
 
@@ -49,23 +51,8 @@ single_renewed s x (e ∷ es) =
 
 -- one more at the end
 
-lie_push : (room : ℕ) (es : List Entry) (q : Entry) → all_lie room es ≡ true → lies room q ≡ true → all_lie room (es ++ q ∷ []) ≡ true
-lie_push room [] q h k = and_from (lies room q) true k refl
-lie_push room (e ∷ es) q h k =
-    let a = and_parts (lies room e) (all_lie room es) h in
-    and_from (lies room e) (all_lie room (es ++ q ∷ [])) a.0 (lie_push room es q a.1 k)
-
-good_push : (named : List ℕ) (es : List Entry) (q : Entry) → all_good named es ≡ true → listed q.sector named ≡ false → all_good named (es ++ q ∷ []) ≡ true
-good_push named [] q h k = and_from (not (listed q.sector named)) true (not_from_false (listed q.sector named) k) refl
-good_push named (e ∷ es) q h k =
-    let a = and_parts (not (listed e.sector named)) (all_good named es) h in
-    and_from (not (listed e.sector named)) (all_good named (es ++ q ∷ [])) a.0 (good_push named es q a.1 k)
-
 in_push : (t : ℕ) (es : List Entry) (q : Entry) → stands_in t es ≡ false → eqb t q.sector ≡ false → stands_in t (es ++ q ∷ []) ≡ false
-in_push t [] q h k = or_from (eqb t q.sector) false k refl
-in_push t (e ∷ es) q h k =
-    let o = or_parts (eqb t e.sector) (stands_in t es) h in
-    or_from (eqb t e.sector) (stands_in t (es ++ q ∷ [])) o.0 (in_push t es q o.1 k)
+in_push t es q h k = or_push (stands_in t) (λ e. eqb t e.sector) refl (λ _ _. refl) es q ∙ or_from (stands_in t es) (eqb t q.sector) h k
 
 eqb_swap : (a b : ℕ) → eqb a b ≡ false → eqb b a ≡ false
 eqb_swap a b h = ne_eqb b a (λ e. eqb-false a b h (sym e))
@@ -79,130 +66,143 @@ single_push (e ∷ es) q h k =
     (not_from_false (stands_in e.sector (es ++ q ∷ [])) (in_push e.sector es q (not-true (stands_in e.sector es) a.0) (eqb_swap q.sector e.sector o.0)))
     (single_push es q a.1 o.1)
 
--- one less at the front
+-- what holds of the buffer, at its front
 
-lie_younger : (room : ℕ) (es : List Entry) → all_lie room es ≡ true → all_lie room (younger es) ≡ true
-lie_younger room [] h = refl
-lie_younger room (e ∷ es) h = (and_parts (lies room e) (all_lie room es) h).1
+-- of an entry and those younger
+pub record Heads (room : ℕ) (named : List ℕ) (e : Entry) (es : List Entry) : Type 0 where
+  pub inside : (e.sector + 1) * 128 ≤ room
+  pub good : listed e.sector named ≡ false
+  pub whole : length e.bytes ≡ 128
+  pub alone : stands_in e.sector es ≡ false
+  pub rest : Fits room named es
 
-good_younger : (named : List ℕ) (es : List Entry) → all_good named es ≡ true → all_good named (younger es) ≡ true
-good_younger named [] h = refl
-good_younger named (e ∷ es) h = (and_parts (not (listed e.sector named)) (all_good named es) h).1
+pub heads : {room : ℕ} {named : List ℕ} {e : Entry} {es : List Entry} → Fits room named (e ∷ es) → Heads room named e es
+heads {room} {named} {e} {es} f =
+    let a = and_parts (lies room e) (all_lie room es) f.lie in
+    let p = lies_parts room e a.0 in
+    let g = and_parts (not (listed e.sector named)) (all_good named es) f.good in
+    let s = and_parts (not (stands_in e.sector es)) (single es) f.single in
+    let n = f.most in
+    record {
+      inside = p.0;
+      good = not-true (listed e.sector named) g.0;
+      whole = p.1;
+      alone = not-true (stands_in e.sector es) s.0;
+      rest = record { most = omega arith; lie = a.1; good = g.1; single = s.1 };
+    }
 
-single_younger : (es : List Entry) → single es ≡ true → single (younger es) ≡ true
-single_younger [] h = refl
-single_younger (e ∷ es) h = (and_parts (not (stands_in e.sector es)) (single es) h).1
+younger_fits : {room : ℕ} {named : List ℕ} (es : List Entry) → Fits room named es → Fits room named (younger es)
+younger_fits [] f = f
+younger_fits (e ∷ es) f = (heads f).rest
 
-pub in_younger : (t : ℕ) (es : List Entry) → stands_in t es ≡ false → stands_in t (younger es) ≡ false
+in_younger : (t : ℕ) (es : List Entry) → stands_in t es ≡ false → stands_in t (younger es) ≡ false
 in_younger t [] h = refl
 in_younger t (e ∷ es) h = (or_parts (eqb t e.sector) (stands_in t es) h).1
 
-pub length_younger : (es : List Entry) → 0 < length es → length (younger es) + 1 ≡ length es
-length_younger [] lt = absurd (omega arith)
-length_younger (e ∷ es) lt = omega arith
+pub in_eased : (t : ℕ) (es : List Entry) → stands_in t es ≡ false → stands_in t (eased es) ≡ false
+in_eased t es h = cond_both (full es) (younger es) es (λ ys. stands_in t ys ≡ false) (λ f. in_younger t es h) (λ f. h)
 
--- a sector brought in
+eased_room : (es : List Entry) → length es ≤ 8 → length (eased es) < 8
+eased_room es h =
+    cond_both (full es) (younger es) es (λ ys. length ys < 8)
+    (λ t. let e = eqb-true (length es) 8 t in omega (arith, length-drop 1 es))
+    (λ t. let n = eqb-false (length es) 8 t in omega arith)
 
-module _ (P : List Entry → Type 0) (s : ℕ) (x : List ℕ) (es : List Entry) where
-  brought_by : P (renewed s x es) → (stands_in s es ≡ false → full es ≡ true → P (younger es ++ entry s x ∷ [])) → (stands_in s es ≡ false → full es ≡ false → P (es ++ entry s x ∷ [])) → P (brought_in s x es)
-  brought_by a b c =
-      cond_both (stands_in s es) (renewed s x es) (cond (full es) (younger es) es ++ entry s x ∷ []) P (λ h. a)
-      (λ h. cond_both (full es) (younger es) es (λ ys. P (ys ++ entry s x ∷ [])) (b h) (c h))
+lie_more : (room more : ℕ) (es : List Entry) → room ≤ more → all_lie room es ≡ true → all_lie more es ≡ true
+lie_more room more es le h =
+    and_from_places (all_lie more) (lies more) refl (λ _ _. refl) es (entry 0 [])
+    (λ i lt.
+    let e = get_or es i (entry 0 []) in
+    let p = lies_parts room e (and_at (all_lie room) (lies room) refl (λ _ _. refl) es i (entry 0 []) lt h) in
+    let q = p.0 in
+    lies_from more e.sector e.bytes (omega arith) p.1)
 
-pub bring_most : (s : ℕ) (x : List ℕ) (es : List Entry) → length es ≤ 8 → length (brought_in s x es) ≤ 8
-bring_most s x es h =
-    brought_by (λ ys. length ys ≤ 8) s x es
-    (omega (arith, length_renewed s x es))
-    (λ a b. let e = eqb-true (length es) 8 b in omega (arith, length-append (younger es) (entry s x ∷ []), length_younger es (omega arith)))
-    (λ a b. let e = eqb-false (length es) 8 b in omega (arith, length-append es (entry s x ∷ [])))
+pub none_fits : (room : ℕ) (named : List ℕ) → Fits room named []
+none_fits room named = record { most = omega arith; lie = refl; good = refl; single = refl }
 
-pub bring_lie : (room s : ℕ) (x : List ℕ) (es : List Entry) → (s + 1) * 128 ≤ room → length x ≡ 128 → all_lie room es ≡ true → all_lie room (brought_in s x es) ≡ true
-bring_lie room s x es i l h =
-    let new = lies_from room s x i l in
-    brought_by (λ ys. all_lie room ys ≡ true) s x es
-    (lie_renewed room s x es l h)
-    (λ a b. lie_push room (younger es) (entry s x) (lie_younger room es h) new)
-    (λ a b. lie_push room es (entry s x) h new)
+-- what a buffer keeps to that fits its row
 
-bring_good : (named : List ℕ) (s : ℕ) (x : List ℕ) (es : List Entry) → listed s named ≡ false → all_good named es ≡ true → all_good named (brought_in s x es) ≡ true
-bring_good named s x es g h =
-    brought_by (λ ys. all_good named ys ≡ true) s x es
-    (good_renewed named s x es ∙ h)
-    (λ a b. good_push named (younger es) (entry s x) (good_younger named es h) g)
-    (λ a b. good_push named es (entry s x) h g)
+module _ (room : ℕ) (named : List ℕ) (es : List Entry) (f : Fits room named es) where
+  pub fits_more : (more : ℕ) → room ≤ more → Fits more named es
+  fits_more more le = record { most = f.most; lie = lie_more room more es le f.lie; good = f.good; single = f.single }
 
-bring_single : (s : ℕ) (x : List ℕ) (es : List Entry) → single es ≡ true → single (brought_in s x es) ≡ true
-bring_single s x es h =
-    brought_by (λ ys. single ys ≡ true) s x es
-    (single_renewed s x es ∙ h)
-    (λ a b. single_push (younger es) (entry s x) (single_younger es h) (in_younger s es a))
-    (λ a b. single_push es (entry s x) h a)
+  renew_fits : (s : ℕ) (x : List ℕ) → length x ≡ 128 → Fits room named (renewed s x es)
+  renew_fits s x l = record {
+    most = omega (arith, length_renewed s x es, f.most);
+    lie = lie_renewed room s x es l f.lie;
+    good = good_renewed named s x es ∙ f.good;
+    single = single_renewed s x es ∙ f.single;
+  }
 
--- a run brought in
+  push_fits : (s : ℕ) (x : List ℕ) → length es < 8 → (s + 1) * 128 ≤ room → length x ≡ 128 → listed s named ≡ false → stands_in s es ≡ false → Fits room named (es ++ entry s x ∷ [])
+  push_fits s x n i l g a = record {
+    most = omega (arith, length-append es (entry s x ∷ []));
+    lie = and_push (all_lie room) (lies room) refl (λ _ _. refl) es (entry s x) ∙ and_from (all_lie room es) (lies room (entry s x)) f.lie (lies_from room s x i l);
+    good = and_push (all_good named) (λ e. not (listed e.sector named)) refl (λ _ _. refl) es (entry s x)
+        ∙ and_from (all_good named es) (not (listed s named)) f.good (not_from_false (listed s named) g);
+    single = single_push es (entry s x) f.single a;
+  }
 
-run_keeps : (P : List Entry → Type 0) (named : List ℕ) (first n : ℕ) (bytes : List ℕ) (es : List Entry)
-    → ((i : ℕ) → i < n → listed (first + i) named ≡ false → (ys : List Entry) → P ys → P (brought_in (first + i) (part bytes i) ys)) → P es → P (brought_run named first n bytes es)
-run_keeps P named first zero bytes es step p = p
-run_keeps P named first (suc n) bytes es step p =
-    let ih = run_keeps P named first n bytes es (λ i lt. step i (omega arith)) p in
-    cond_both (listed (first + n) named) (brought_run named first n bytes es) (brought_in (first + n) (part bytes n) (brought_run named first n bytes es)) P
-    (λ h. ih) (λ h. step n (omega arith) h (brought_run named first n bytes es) ih)
+  ease_fits : Fits room named (eased es)
+  ease_fits = cond_both (full es) (younger es) es (Fits room named) (λ t. younger_fits es f) (λ t. f)
 
-pub run_most : (named : List ℕ) (first n : ℕ) (bytes : List ℕ) (es : List Entry) → length es ≤ 8 → length (brought_run named first n bytes es) ≤ 8
-run_most named first n bytes es h = run_keeps (λ ys. length ys ≤ 8) named first n bytes es (λ i lt g ys p. bring_most (first + i) (part bytes i) ys p) h
+module _ (room : ℕ) (named : List ℕ) where
+  -- a sector brought in
+  pub bring_fits : (es : List Entry) → Fits room named es → (s : ℕ) (x : List ℕ) → (s + 1) * 128 ≤ room → length x ≡ 128 → listed s named ≡ false → Fits room named (brought_in s x es)
+  bring_fits es f s x i l g =
+      cond_both (stands_in s es) (renewed s x es) (eased es ++ entry s x ∷ []) (Fits room named)
+      (λ h. renew_fits room named es f s x l)
+      (λ h. push_fits room named (eased es) (ease_fits room named es f) s x (eased_room es f.most) i l g (in_eased s es h))
 
-pub run_lie : (room : ℕ) (named : List ℕ) (first n : ℕ) (bytes : List ℕ) (es : List Entry) → (first + n) * 128 ≤ room → n * 128 ≤ length bytes → all_lie room es ≡ true → all_lie room (brought_run named first n bytes es) ≡ true
-run_lie room named first n bytes es i l h =
-    run_keeps (λ ys. all_lie room ys ≡ true) named first n bytes es
-    (λ j lt g ys p. bring_lie room (first + j) (part bytes j) ys (omega arith) (length_part bytes j (omega arith)) p) h
-
-pub run_good : (named : List ℕ) (first n : ℕ) (bytes : List ℕ) (es : List Entry) → all_good named es ≡ true → all_good named (brought_run named first n bytes es) ≡ true
-run_good named first n bytes es h = run_keeps (λ ys. all_good named ys ≡ true) named first n bytes es (λ i lt g ys p. bring_good named (first + i) (part bytes i) ys g p) h
-
-pub run_single : (named : List ℕ) (first n : ℕ) (bytes : List ℕ) (es : List Entry) → single es ≡ true → single (brought_run named first n bytes es) ≡ true
-run_single named first n bytes es h = run_keeps (λ ys. single ys ≡ true) named first n bytes es (λ i lt g ys p. bring_single (first + i) (part bytes i) ys p) h
+  -- a run brought in
+  pub run_fits : (es : List Entry) → Fits room named es → (first n : ℕ) (bytes : List ℕ) → (first + n) * 128 ≤ room → n * 128 ≤ length bytes → Fits room named (brought_run named first n bytes es)
+  run_fits es f first zero bytes i l = f
+  run_fits es f first (suc n) bytes i l =
+      let ih = run_fits es f first n bytes (omega arith) (omega arith) in
+      cond_both (listed (first + n) named) (brought_run named first n bytes es) (brought_in (first + n) (part bytes n) (brought_run named first n bytes es)) (Fits room named)
+      (λ h. ih)
+      (λ h. bring_fits (brought_run named first n bytes es) ih (first + n) (part bytes n) (omega arith) (length_part bytes n (omega arith)) h)
 
 -- the row keeps its length
 
-length_oldest : (named : List ℕ) (es : List Entry) (row : List ℕ) → all_lie (length row) es ≡ true → length (put_oldest named es row) ≡ length row
-length_oldest named [] row h = refl
-length_oldest named (e ∷ es) row h =
-    let p = lies_parts (length row) e (and_parts (lies (length row) e) (all_lie (length row) es) h).0 in
-    length_sector named e.sector e.bytes row p.1 p.0
+module _ (named : List ℕ) where
+  length_oldest : (es : List Entry) (row : List ℕ) → Fits (length row) named es → length (put_oldest named es row) ≡ length row
+  length_oldest [] row f = refl
+  length_oldest (e ∷ es) row f = let h = heads f in length_sector named e.sector e.bytes row h.whole h.inside
 
-pub length_put_out : (named : List ℕ) (s : ℕ) (es : List Entry) (row : List ℕ) → all_lie (length row) es ≡ true → length (put_out named s es row) ≡ length row
-length_put_out named s es row h =
-    cond_both (stands_in s es) row (cond (full es) (put_oldest named es row) row) (λ r. length r ≡ length row) (λ t. refl)
-    (λ t. cond_both (full es) (put_oldest named es row) row (λ r. length r ≡ length row) (λ u. length_oldest named es row h) (λ u. refl))
+  pub length_eased : (es : List Entry) (row : List ℕ) → Fits (length row) named es → length (pushed_out named es row) ≡ length row
+  length_eased es row f = cond_both (full es) (put_oldest named es row) row (λ r. length r ≡ length row) (λ t. length_oldest es row f) (λ t. refl)
 
-pub length_run_out : (named : List ℕ) (first n : ℕ) (bytes : List ℕ) (es : List Entry) (row : List ℕ) → (first + n) * 128 ≤ length row → n * 128 ≤ length bytes → all_lie (length row) es ≡ true
-    → length (put_out_run named first n bytes es row) ≡ length row
-length_run_out named first zero bytes es row i l h = refl
-length_run_out named first (suc n) bytes es row i l h =
-    let ih = length_run_out named first n bytes es row (omega arith) (omega arith) h in
-    let lie = run_lie (length row) named first n bytes es (omega arith) (omega arith) h in
-    cond_both (listed (first + n) named) (put_out_run named first n bytes es row)
-    (put_out named (first + n) (brought_run named first n bytes es) (put_out_run named first n bytes es row)) (λ r. length r ≡ length row)
-    (λ t. ih)
-    (λ t. length_put_out named (first + n) (brought_run named first n bytes es) (put_out_run named first n bytes es row) (ap (λ z. all_lie z (brought_run named first n bytes es)) ih ∙ lie) ∙ ih)
+  pub length_put_out : (s : ℕ) (es : List Entry) (row : List ℕ) → Fits (length row) named es → length (put_out named s es row) ≡ length row
+  length_put_out s es row f = cond_both (stands_in s es) row (pushed_out named es row) (λ r. length r ≡ length row) (λ t. refl) (λ t. length_eased es row f)
 
-pub length_all : (named : List ℕ) (es : List Entry) (row : List ℕ) → all_lie (length row) es ≡ true → length (put_all named es row) ≡ length row
-length_all named [] row h = refl
-length_all named (e ∷ es) row h =
-    let a = and_parts (lies (length row) e) (all_lie (length row) es) h in
-    let p = lies_parts (length row) e a.0 in
-    let one = length_sector named e.sector e.bytes row p.1 p.0 in
-    length_all named es (put_sector named e.sector e.bytes row) (ap (λ z. all_lie z es) one ∙ a.1) ∙ one
+  pub length_run_out : (first n : ℕ) (bytes : List ℕ) (es : List Entry) (row : List ℕ) → (first + n) * 128 ≤ length row → n * 128 ≤ length bytes → Fits (length row) named es
+      → length (put_out_run named first n bytes es row) ≡ length row
+  length_run_out first zero bytes es row i l f = refl
+  length_run_out first (suc n) bytes es row i l f =
+      let ih = length_run_out first n bytes es row (omega arith) (omega arith) f in
+      let fn = run_fits (length row) named es f first n bytes (omega arith) (omega arith) in
+      cond_both (listed (first + n) named) (put_out_run named first n bytes es row)
+      (put_out named (first + n) (brought_run named first n bytes es) (put_out_run named first n bytes es row)) (λ r. length r ≡ length row)
+      (λ t. ih)
+      (λ t. length_put_out (first + n) (brought_run named first n bytes es) (put_out_run named first n bytes es row) (subst (λ z. Fits z named (brought_run named first n bytes es)) (sym ih) fn) ∙ ih)
 
-pub lie_more : (room more : ℕ) (es : List Entry) → room ≤ more → all_lie room es ≡ true → all_lie more es ≡ true
-lie_more room more [] le h = refl
-lie_more room more (e ∷ es) le h =
-    let a = and_parts (lies room e) (all_lie room es) h in
-    let p = lies_parts room e a.0 in
-    and_from (lies more e) (all_lie more es) (lies_from more e.sector e.bytes (let q = p.0 in omega arith) p.1) (lie_more room more es le a.1)
+  pub length_all : (es : List Entry) (row : List ℕ) → Fits (length row) named es → length (put_all named es row) ≡ length row
+  length_all [] row f = refl
+  length_all (e ∷ es) row f =
+      let h = heads f in
+      let one = length_sector named e.sector e.bytes row h.whole h.inside in
+      length_all es (put_sector named e.sector e.bytes row) (subst (λ z. Fits z named es) (sym one) h.rest) ∙ one
 
-pub eased_room : (es : List Entry) → length es ≤ 8 → length (eased es) < 8
-eased_room es h =
-    cond_both (full es) (younger es) es (λ ys. length ys < 8)
-    (λ t. let e = eqb-true (length es) 8 t in omega (arith, length_younger es (omega arith)))
-    (λ t. let n = eqb-false (length es) 8 t in omega arith)
+-- a buffer keeps to that, also once a sector is brought in
+
+pub fits_in : (b : Buffer) → Fits (length b.row.bytes.now) b.row.named (b.entries.items)
+fits_in b = record { most = b.most; lie = b.lie; good = b.good; single = b.single }
+
+pub bring_keeps : (b : Buffer) (s : ℕ) (x : List ℕ) → (s + 1) * 128 ≤ length b.row.bytes.now → length x ≡ 128 → listed s b.row.named ≡ false
+    → {es : List Entry} {row named : List ℕ} → es ≡ brought_in s x (b.entries.items) → row ≡ put_out b.row.named s (b.entries.items) b.row.bytes.now → named ≡ b.row.named
+    → Fits (length row) named es
+bring_keeps b s x i l g e r n =
+    let es = b.entries.items in
+    let m = ap length r ∙ length_put_out b.row.named s es b.row.bytes.now (fits_in b) in
+    rw (m, n, e) (bring_fits (length b.row.bytes.now) b.row.named es (fits_in b) s x i l g)

@@ -1,49 +1,14 @@
 -- What the buffer over the medium shows once sectors are brought in and put out.
 use Rattle.std.proofs.Common.{◌≡◌, ℕ, zero, suc, ◌+◌, ◌-◌, ◌*◌, ◌<◌, ◌≤◌, Bool, true, false, cond, not, ◌&&◌, ◌||◌, eqb, ltb, leb, ◌⊎◌, List, [], ◌∷◌, ◌++◌, length, take, drop, sym, refl, ap, ◌∙◌, inl, inr, ⊎_elim, arith}
-use Rattle.std.proofs.lemmas.Bool.{cases_Bool, cases_order, cases_eq, and_parts, and_from, and_left, and_right, or_parts, not-true, not_from_false, eqb-true, eqb-false, eq-eqb, ne_eqb, lt-ltb, le-ltb, cond-true, cond-false, cond_both, both_ways}
+use Rattle.std.proofs.lemmas.Bool.{cases_Bool, cases_order, cases_eq, and_from, and_left, and_right, or_parts, not_from_false, eqb-true, eqb-false, eq-eqb, ne_eqb, lt-ltb, le-ltb, cond-true, cond-false, cond_both, both_ways}
 use Rattle.device.specs.Meaning.{Contents, part, zeros, covers}
 use Rattle.sectors.specs.Memory.{listed, put_sector}
 use Rattle.sectors.specs.Shown.{shown}
 use Rattle.sectors.proofs.Parts.{length_sector, sector_here, sector_other, covers_not, covers_in}
-use Rattle.drive.specs.SoundFacts.{Fits, lies_parts}
+use Rattle.drive.specs.SoundFacts.{Fits}
 use Rattle.drive.specs.declared.buffer.Entry.{Entry}
-use Rattle.drive.specs.Buffer.{entry, stands_in, buffered, renewed, full, younger, put_oldest, eased, pushed_out, brought_in, put_out, brought_run, put_out_run, put_all, lies, all_lie, all_good, single}
-use Rattle.drive.proofs.Keeping.{in_younger, run_most, run_lie, run_good, run_single, length_run_out, lie_more}
-
-pub run_fits : (size : ℕ) (named : List ℕ) (first n : ℕ) (bytes : List ℕ) (es : List Entry) → first + n ≤ size → n * 128 ≤ length bytes → Fits size named es → Fits size named (brought_run named first n bytes es)
-run_fits size named first n bytes es i l f = record {
-  most = run_most named first n bytes es f.most;
-  lie = run_lie (size * 128) named first n bytes es (omega arith) l f.lie;
-  good = run_good named first n bytes es f.good;
-  single = run_single named first n bytes es f.single;
-}
-
-pub none_fits : (size : ℕ) (named : List ℕ) → Fits size named []
-none_fits size named = record { most = omega arith; lie = refl; good = refl; single = refl }
-
--- of an entry and those younger
-pub record Heads (size : ℕ) (named : List ℕ) (e : Entry) (es : List Entry) : Type 0 where
-  pub inside : e.sector < size
-  pub good : listed e.sector named ≡ false
-  pub whole : length e.bytes ≡ 128
-  pub alone : stands_in e.sector es ≡ false
-  pub rest : Fits size named es
-
-pub heads : (size : ℕ) (named : List ℕ) (e : Entry) (es : List Entry) → Fits size named (e ∷ es) → Heads size named e es
-heads size named e es f =
-    let a = and_parts (lies (size * 128) e) (all_lie (size * 128) es) f.lie in
-    let p = lies_parts (size * 128) e a.0 in
-    let g = and_parts (not (listed e.sector named)) (all_good named es) f.good in
-    let s = and_parts (not (stands_in e.sector es)) (single es) f.single in
-    let n = f.most in
-    let q = p.0 in
-    record {
-      inside = omega arith;
-      good = not-true (listed e.sector named) g.0;
-      whole = p.1;
-      alone = not-true (stands_in e.sector es) s.0;
-      rest = record { most = omega arith; lie = a.1; good = g.1; single = s.1 };
-    }
+use Rattle.drive.specs.Buffer.{entry, stands_in, buffered, renewed, full, younger, put_oldest, eased, pushed_out, brought_in, put_out, brought_run, put_out_run, put_all}
+use Rattle.drive.proofs.Keeping.{Heads, heads, in_eased, run_fits, fits_more, length_run_out}
 
 -- two tests of which at most one holds
 swap : (a b : Bool) (x y z : List ℕ) → (a ≡ true → b ≡ true → ⊥) → cond a x (cond b y z) ≡ cond b y (cond a x z)
@@ -92,7 +57,7 @@ taken k x below (p ∷ ps) s h = taken_by k x below p ps s (taken k x below ps s
 
 module _ (size : ℕ) (named : List ℕ) where
   -- a good sector takes bytes on the medium
-  pub put_shown : (k : ℕ) (x row : List ℕ) → k < size → listed k named ≡ false → length x ≡ 128 → size * 128 ≤ length row → (s : ℕ)
+  pub put_shown : (k : ℕ) (x row : List ℕ) → (k + 1) * 128 ≤ size * 128 → listed k named ≡ false → length x ≡ 128 → size * 128 ≤ length row → (s : ℕ)
       → shown size named (put_sector named k x row) s ≡ cond (eqb s k) x (shown size named row s)
   put_shown k x row lt g l m s =
       let fits : (k + 1) * 128 ≤ length row = omega arith in
@@ -107,19 +72,19 @@ module _ (size : ℕ) (named : List ℕ) where
       (cases_order s k)
 
   -- putting the oldest out leaves what buffer and medium show together
-  head_out : (e : Entry) (es : List Entry) (row : List ℕ) → Heads size named e es → size * 128 ≤ length row → (s : ℕ)
+  head_out : (e : Entry) (es : List Entry) (row : List ℕ) → Heads (size * 128) named e es → size * 128 ≤ length row → (s : ℕ)
       → buffered es (shown size named (put_sector named e.sector e.bytes row)) s ≡ buffered (e ∷ es) (shown size named row) s
   head_out e es row h m s =
       under e.sector e.bytes (shown size named row) (shown size named (put_sector named e.sector e.bytes row)) es s
       (put_shown e.sector e.bytes row h.inside h.good h.whole m s) h.alone
 
-  oldest_out : (es : List Entry) (row : List ℕ) → Fits size named es → size * 128 ≤ length row → (s : ℕ)
+  oldest_out : (es : List Entry) (row : List ℕ) → Fits (size * 128) named es → size * 128 ≤ length row → (s : ℕ)
       → buffered (younger es) (shown size named (put_oldest named es row)) s ≡ buffered es (shown size named row) s
   oldest_out [] row f m s = refl
-  oldest_out (e ∷ es) row f m s = head_out e es row (heads size named e es f) m s
+  oldest_out (e ∷ es) row f m s = head_out e es row (heads f) m s
 
   -- pushing out never changes what buffer and medium show together
-  pub eased_same : (es : List Entry) (row : List ℕ) → Fits size named es → size * 128 ≤ length row → (s : ℕ)
+  pub eased_same : (es : List Entry) (row : List ℕ) → Fits (size * 128) named es → size * 128 ≤ length row → (s : ℕ)
       → buffered (eased es) (shown size named (pushed_out named es row)) s ≡ buffered es (shown size named row) s
   eased_same es row f m s =
       ⊎_elim
@@ -131,11 +96,8 @@ module _ (size : ℕ) (named : List ℕ) where
       ∙ ap (λ r. buffered es (shown size named r) s) (cond-false (full es) (put_oldest named es row) row h))
       (cases_Bool (full es))
 
-  in_eased : (k : ℕ) (es : List Entry) → stands_in k es ≡ false → stands_in k (eased es) ≡ false
-  in_eased k es h = cond_both (full es) (younger es) es (λ ys. stands_in k ys ≡ false) (λ t. in_younger k es h) (λ t. h)
-
   -- a sector brought in
-  pub bring_base : (k : ℕ) (x : List ℕ) (es : List Entry) (row : List ℕ) → Fits size named es → size * 128 ≤ length row → (s : ℕ)
+  pub bring_base : (k : ℕ) (x : List ℕ) (es : List Entry) (row : List ℕ) → Fits (size * 128) named es → size * 128 ≤ length row → (s : ℕ)
       → buffered (brought_in k x es) (shown size named (put_out named k es row)) s ≡ cond (eqb s k) x (buffered es (shown size named row) s)
   bring_base k x es row f m s =
       ⊎_elim
@@ -154,39 +116,39 @@ module _ (size : ℕ) (named : List ℕ) where
   same_cond true x y z h = refl
   same_cond false x y z h = h
 
-  oldest_medium : (es : List Entry) (row : List ℕ) → Fits size named es → size * 128 ≤ length row → (s : ℕ)
+  oldest_medium : (es : List Entry) (row : List ℕ) → Fits (size * 128) named es → size * 128 ≤ length row → (s : ℕ)
       → shown size named row s ≡ buffered es (shown size named row) s → shown size named (put_oldest named es row) s ≡ buffered es (shown size named row) s
   oldest_medium [] row f m s h = h
   oldest_medium (e ∷ es) row f m s h =
-      let p = heads size named e es f in
+      let p = heads f in
       put_shown e.sector e.bytes row p.inside p.good p.whole m s
       ∙ same_cond (eqb s e.sector) e.bytes (shown size named row s) (buffered es (shown size named row) s) h
 
   -- where the medium is as promised, it still is once a sector is put out
-  bring_medium : (k : ℕ) (es : List Entry) (row : List ℕ) → Fits size named es → size * 128 ≤ length row → (s : ℕ)
+  bring_medium : (k : ℕ) (es : List Entry) (row : List ℕ) → Fits (size * 128) named es → size * 128 ≤ length row → (s : ℕ)
       → shown size named row s ≡ buffered es (shown size named row) s → shown size named (put_out named k es row) s ≡ buffered es (shown size named row) s
   bring_medium k es row f m s h =
       cond_both (stands_in k es) row (pushed_out named es row) (λ r. shown size named r s ≡ buffered es (shown size named row) s) (λ t. h)
       (λ t. cond_both (full es) (put_oldest named es row) row (λ r. shown size named r s ≡ buffered es (shown size named row) s) (λ u. oldest_medium es row f m s h) (λ u. h))
 
   -- putting the n oldest out leaves what buffer and medium show together
-  pub some_out : (n : ℕ) (es : List Entry) (row : List ℕ) → Fits size named es → size * 128 ≤ length row → (s : ℕ)
+  pub some_out : (n : ℕ) (es : List Entry) (row : List ℕ) → Fits (size * 128) named es → size * 128 ≤ length row → (s : ℕ)
       → buffered (drop n es) (shown size named (put_all named (take n es) row)) s ≡ buffered es (shown size named row) s
   some_out zero es row f m s = refl
   some_out (suc n) [] row f m s = refl
   some_out (suc n) (e ∷ es) row f m s =
-      let p = heads size named e es f in
+      let p = heads f in
       let i = p.inside in
       let l = length_sector named e.sector e.bytes row p.whole (omega arith) in
       some_out n es (put_sector named e.sector e.bytes row) p.rest (omega (arith, l)) s
       ∙ head_out e es row p m s
 
   -- a flush
-  pub all_base : (es : List Entry) (row : List ℕ) → Fits size named es → size * 128 ≤ length row → (s : ℕ)
+  pub all_base : (es : List Entry) (row : List ℕ) → Fits (size * 128) named es → size * 128 ≤ length row → (s : ℕ)
       → shown size named (put_all named es row) s ≡ buffered es (shown size named row) s
   all_base [] row f m s = refl
   all_base (e ∷ es) row f m s =
-      let p = heads size named e es f in
+      let p = heads f in
       let i = p.inside in
       let n = length_sector named e.sector e.bytes row p.whole (omega arith) in
       all_base es (put_sector named e.sector e.bytes row) p.rest (omega (arith, n)) s
@@ -238,7 +200,7 @@ free_test named s k h =
     (λ n. ne_eqb s k n ∙ sym (and_left (eqb s k) (not (listed s named)) (ne_eqb s k n)))
     (cases_eq s k)
 
-module _ (size : ℕ) (named : List ℕ) (first : ℕ) (bytes : List ℕ) (es : List Entry) (row : List ℕ) (f : Fits size named es) (m : size * 128 ≤ length row) where
+module _ (size : ℕ) (named : List ℕ) (first : ℕ) (bytes : List ℕ) (es : List Entry) (row : List ℕ) (f : Fits (size * 128) named es) (m : size * 128 ≤ length row) where
   abbrev base : Contents
   base = buffered es (shown size named row)
 
@@ -249,7 +211,7 @@ module _ (size : ℕ) (named : List ℕ) (first : ℕ) (bytes : List ℕ) (es : 
   out_run n = put_out_run named first n bytes es row
 
   pub out_long : (n : ℕ) → first + n ≤ size → n * 128 ≤ length bytes → length (out_run n) ≡ length row
-  out_long n i l = length_run_out named first n bytes es row (omega arith) l (lie_more (size * 128) (length row) es m f.lie)
+  out_long n i l = length_run_out named first n bytes es row (omega arith) l (fits_more (size * 128) named es f (length row) m)
 
   pub run_base : (n : ℕ) → first + n ≤ size → n * 128 ≤ length bytes → (s : ℕ)
       → buffered (in_run n) (shown size named (out_run n)) s ≡ cond (covers first n s && not (listed s named)) (part bytes (s - first)) (base s)
@@ -262,7 +224,7 @@ module _ (size : ℕ) (named : List ℕ) (first : ℕ) (bytes : List ℕ) (es : 
       let k = first + n in
       let g = not (listed s named) in
       let before = cond (covers first n s && g) (part bytes (s - first)) (base s) in
-      let fn = run_fits size named first n bytes es (omega arith) (omega arith) f in
+      let fn = run_fits (size * 128) named es f first n bytes (omega arith) (omega arith) in
       let mn = out_long n (omega arith) (omega arith) in
       ⊎_elim
       (λ h.
@@ -288,7 +250,7 @@ module _ (size : ℕ) (named : List ℕ) (first : ℕ) (bytes : List ℕ) (es : 
       let ih = run_medium n (omega arith) (omega arith) s less h in
       let now = run_base n (omega arith) (omega arith) s
       ∙ cond-false (covers first n s && not (listed s named)) (part bytes (s - first)) (base s) (and_left (covers first n s) (not (listed s named)) less) in
-      let fn = run_fits size named first n bytes es (omega arith) (omega arith) f in
+      let fn = run_fits (size * 128) named es f first n bytes (omega arith) (omega arith) in
       let mn = out_long n (omega arith) (omega arith) in
       cond_both (listed k named) (out_run n) (put_out named k (in_run n) (out_run n)) (λ r. shown size named r s ≡ base s)
       (λ t. ih)

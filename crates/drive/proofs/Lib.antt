@@ -1,4 +1,3 @@
-mod Single
 mod Finding
 mod Keeping
 mod Laws

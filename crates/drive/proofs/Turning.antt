@@ -24,16 +24,10 @@ use Rattle.tickets.proofs.CallFacts.{Kept, length_held, oldest_ready, turn_idle,
 use Rattle.drive.specs.SoundFacts.{Fits, buffered_length}
 use Rattle.drive.specs.declared.buffer.Entry.{Entry}
 use Rattle.drive.specs.Buffer.{buffered}
-use Rattle.drive.proofs.Keeping.{lie_more, length_all}
-use Rattle.drive.proofs.Laws.{run_fits, none_fits, all_base, run_base, run_medium, out_long}
+use Rattle.drive.proofs.Keeping.{run_fits, none_fits, fits_more, length_all}
+use Rattle.drive.proofs.Laws.{all_base, run_base, run_medium, out_long}
 use Rattle.drive.specs.Means.{meant}
-use Rattle.drive.specs.Service.{sight, travel, cost_as, arm_as, entries_as, row_as, turn_ticks, turn_arm, turn_entries, turn_row}
-
-pub moved : {size size' most most' : ℕ} {named named' : List ℕ} {ps ps' : List Place} {es es' : List Entry} {row row' : List ℕ} → size' ≡ size → most' ≡ most → named' ≡ named → ps' ≡ ps → es' ≡ es → row' ≡ row
-    → meant size' most' named' ps' es' row' ≡ meant size most named ps es row
-moved {size} {size'} {most} {most'} {named} {named'} {ps} {ps'} {es} {es'} {row} {row'} a m b c e d =
-    ap (λ x. meant x most' named' ps' es' row') a ∙ (ap (λ x. meant size x named' ps' es' row') m ∙ (ap (λ x. meant size most x ps' es' row') b
-    ∙ (ap (λ x. meant size most named x es' row') c ∙ (ap (λ x. meant size most named ps x row') e ∙ ap (meant size most named ps es) d))))
+use Rattle.drive.specs.Service.{sight, travel, cost_as, arm_as, entries_as, row_as, turn_ticks, turn_entries, turn_row}
 
 pub buffered_same : (es : List Entry) (below below' : Contents) (s : ℕ) → below s ≡ below' s → buffered es below s ≡ buffered es below' s
 buffered_same [] below below' s h = h
@@ -44,10 +38,15 @@ module _ (size : ℕ) (named : List ℕ) (p : Place) (f : places.Fits size (name
   pub held_long : p.count * 128 ≤ length (held p)
   held_long = let n = length_held size (names named) p f in omega (arith, n)
 
-  pub entries_fit : (k : Kind) (es : List Entry) → Fits size named es → Fits size named (entries_as k named p es)
+  pub entries_fit : (k : Kind) (es : List Entry) → Fits (size * 128) named es → Fits (size * 128) named (entries_as k named p es)
   entries_fit Read es g = g
-  entries_fit Write es g = run_fits size named p.first p.count (held p) es f.inside held_long g
-  entries_fit Flush es g = none_fits size named
+  entries_fit Write es g = let i = f.inside in run_fits (size * 128) named es g p.first p.count (held p) (omega arith) held_long
+  entries_fit Flush es g = none_fits (size * 128) named
+
+  pub row_length : (k : Kind) (es : List Entry) (row : List ℕ) → size * 128 ≤ length row → Fits (size * 128) named es → length (row_as k named p es row) ≡ length row
+  row_length Read es row m g = refl
+  row_length Write es row m g = out_long size named p.first (held p) es row g m p.count f.inside held_long
+  row_length Flush es row m g = length_all named es row (fits_more (size * 128) named es g (length row) m)
 
   pub arm_in : (k : Kind) (arm : ℕ) → arm ≤ size → arm_as k arm p ≤ size
   arm_in Read arm h = f.inside
@@ -72,7 +71,7 @@ bad_test size named first n s i =
     (λ c. and_left (covers first n s) (not (listed s named)) c ∙ sym (and_left (covers first n s) (not (bad_of size named s)) c))
     (cases_Bool (covers first n s))
 
-module _ (size most : ℕ) (named : List ℕ) (ps : List Place) (arm : ℕ) (es : List Entry) (row : List ℕ) (m : size * 128 ≤ length row) (f : Fits size named es)
+module _ (size most : ℕ) (named : List ℕ) (ps : List Place) (arm : ℕ) (es : List Entry) (row : List ℕ) (m : size * 128 ≤ length row) (f : Fits (size * 128) named es)
     (k : Kept size most named ps (buffered es (shown size named row)) (shown size named row)) where
   abbrev base : Contents
   base = buffered es (shown size named row)
@@ -156,29 +155,3 @@ module _ (size most : ℕ) (named : List ℕ) (ps : List Place) (arm : ℕ) (es 
 
   pub turn_oldest : tickets_over bad (places_as (first_waiting ps) (sight named es row) ps) (buffered (turn_entries (first_waiting ps) named ps es) (shown size named (turn_row (first_waiting ps) named ps es row))) ≡ ready_oldest (tickets_over bad ps base)
   turn_oldest = oldest_by (first_waiting ps) refl
-
-  fit_by : (o : Option ℕ) → first_waiting ps ≡ o → Fits size named (turn_entries o named ps es)
-  fit_by None e = f
-  fit_by (Some i) e = entries_fit size named (get_or ps i blank) (place_fits i e) (get_or ps i blank).kind es f
-
-  pub turn_fits : Fits size named (turn_entries (first_waiting ps) named ps es)
-  turn_fits = fit_by (first_waiting ps) refl
-
-  reach_by : arm ≤ size → (o : Option ℕ) → first_waiting ps ≡ o → turn_arm o ps arm ≤ size
-  reach_by a None e = a
-  reach_by a (Some i) e = arm_in size named (get_or ps i blank) (place_fits i e) (get_or ps i blank).kind arm a
-
-  pub turn_reach : arm ≤ size → turn_arm (first_waiting ps) ps arm ≤ size
-  turn_reach a = reach_by a (first_waiting ps) refl
-
-  kind_length : (j : Kind) (p : Place) → places.Fits size (names named) p → length (row_as j named p es row) ≡ length row
-  kind_length Read p g = refl
-  kind_length Write p g = out_long size named p.first (held p) es row f m p.count g.inside (held_long size named p g)
-  kind_length Flush p g = length_all named es row (lie_more (size * 128) (length row) es m f.lie)
-
-  length_by : (o : Option ℕ) → first_waiting ps ≡ o → length (turn_row o named ps es row) ≡ length row
-  length_by None e = refl
-  length_by (Some i) e = kind_length (get_or ps i blank).kind (get_or ps i blank) (place_fits i e)
-
-  pub turn_length : length (turn_row (first_waiting ps) named ps es row) ≡ length row
-  turn_length = length_by (first_waiting ps) refl

@@ -1,5 +1,6 @@
 -- The buffer of a drive: sectors with their bytes, the one longest in it first.
-use Rattle.std.specs.Prelude.{ℕ, zero, suc, ◌+◌, ◌*◌, Bool, true, false, cond, not, ◌&&◌, ◌||◌, List, [], ◌∷◌, ◌++◌, length, Option, ◌==◌, nat_le}
+use Rattle.std.specs.Prelude.{ℕ, zero, suc, ◌+◌, ◌*◌, Bool, true, cond, not, ◌&&◌, List, [], ◌∷◌, ◌++◌, length, drop, Option, ◌==◌, nat_le}
+use Rattle.std.specs.List.{list_any, list_all}
 use Rattle.device.specs.Lookup.{index_by}
 use Rattle.device.specs.Meaning.{Contents, part, sector_bytes}
 use Rattle.sectors.specs.Memory.{listed, put_sector}
@@ -22,8 +23,7 @@ index_of s es = index_by by_sector 0 s es
 
 -- the sector is in the buffer
 abbrev pub stands_in : ℕ → List Entry → Bool
-stands_in s [] = false
-stands_in s (e ∷ es) = s == e.sector || stands_in s es
+stands_in s es = list_any (λ e. s == e.sector) es
 
 -- the buffer over what lies below it
 abbrev pub buffered : List Entry → Contents → Contents
@@ -41,8 +41,7 @@ full es = length es == buffer_size
 
 -- the buffer without the sector that is longest in it
 abbrev pub younger : List Entry → List Entry
-younger [] = []
-younger (e ∷ es) = es
+younger es = drop 1 es
 
 -- the row of bytes once the sector longest in the buffer is put on it
 abbrev pub put_oldest : List ℕ → List Entry → List ℕ → List ℕ
@@ -88,13 +87,11 @@ abbrev pub lies : ℕ → Entry → Bool
 lies room e = nat_le ((e.sector + 1) * sector_bytes) room && length e.bytes == sector_bytes
 
 abbrev pub all_lie : ℕ → List Entry → Bool
-all_lie room [] = true
-all_lie room (e ∷ es) = lies room e && all_lie room es
+all_lie room es = list_all (lies room) es
 
 -- no entry of a named sector
 abbrev pub all_good : List ℕ → List Entry → Bool
-all_good named [] = true
-all_good named (e ∷ es) = not (listed e.sector named) && all_good named es
+all_good named es = list_all (λ e. not (listed e.sector named)) es
 
 -- no sector twice
 abbrev pub single : List Entry → Bool

@@ -1,25 +1,21 @@
--- What a drive means, by its works and its bytes: the disk is the waiting write over the buffer over the medium.
-use Rattle.std.specs.Prelude.{ℕ, ◌*◌, ◌/◌, ◌≤◌, min, List, [], length, vec_items}
+-- What a drive means, by its parts: the disk is the waiting write over the buffer over the medium.
+use Rattle.std.specs.Prelude.{ℕ, ◌*◌, ◌/◌, ◌≤◌, min, List, [], length}
 use Rattle.device.specs.Meaning.{Meaning, sector_bytes}
 use Rattle.device.specs.Sound.{most_sectors}
 use Rattle.sectors.specs.Shown.{shown}
+use Rattle.tickets.specs.declared.front.Front.{Front}
 use Rattle.tickets.specs.declared.place.Place.{Place}
 use Rattle.tickets.specs.Device.{meant_over}
-use Rattle.tickets.specs.Open.{places_of}
 use Rattle.drive.specs.declared.buffer.Entry.{Entry}
-use Rattle.drive.specs.declared.works.Works.{Works}
 use Rattle.drive.specs.Buffer.{buffered}
 
 -- the bytes hold every sector
-abbrev pub Holds : Works → List ℕ → Type 0
-Holds w row = w.front.size * sector_bytes ≤ length row
+abbrev pub Holds : Front → List ℕ → Type 0
+Holds f row = f.size * sector_bytes ≤ length row
 
 -- height 0, home (0, s); the oldest waiting ticket finds the buffer over what the bytes show
 abbrev pub meant : (size most : ℕ) → List ℕ → List Place → List Entry → List ℕ → Meaning
 meant size most named ps es row = meant_over size most named ps (buffered es (shown size named row)) (shown size named row)
-
-abbrev pub means : Works → List ℕ → Meaning
-means w row = meant w.front.size w.front.capacity w.front.named (places_of w.front) (vec_items w.entries) row
 
 -- at set-up: as many sectors as the bytes have whole ones, 65,536 at most; 1 ticket, none open; an empty buffer
 abbrev pub set_up : List ℕ → List ℕ → Meaning

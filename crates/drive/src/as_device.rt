@@ -1,39 +1,48 @@
 // The drive as a device.
 ghost use Rattle.std.specs.Prelude.{◌≡◌, ℕ, IfOk};
-ghost use Rattle.drive.specs.Means.{Holds, means, set_up};
-ghost use Rattle.drive.specs.Turn.{Acts};
+ghost use Rattle.drive.specs.Means.{set_up};
+ghost use Rattle.drive.specs.Turn.{means, Acts};
 ghost use Rattle.drive.specs.SoundFacts.{sound_drive};
 
+use crate::buffer::Buffer;
 use crate::drive::Drive;
-use crate::works::Works;
 use device::{Device, Home, Refusal, Request, SECTOR, State};
+use sectors::Row;
 use std::alloc::{AllocError, Global};
+use tickets::Front;
+
+/// The tickets that a drive holds at most.
+const CAPACITY: u32 = 1;
 
 impl<'a> Drive<'a> {
     /// A drive over the bytes; `named` names its bad sectors, and a number not below the size names none.
     pub fn new(heap: Global, bytes: &'a mut [u8], named: [u32; 8]) -> Result<Drive<'a>, AllocError>
-        ensures { IfOk result (λ d. Holds d.works d.bytes.now × (d.bytes.now ≡ bytes.old) × (means d.works d.bytes.now ≡ set_up named bytes.old) × (d.works.arm ≡ 0)) }
+        ensures { IfOk result (λ d. (d.buffer.row.bytes.now ≡ bytes.old) × (means d ≡ set_up named bytes.old) × (d.arm ≡ 0)) }
     {
-        let works = Works::new(heap, bytes.len() / SECTOR, named)?;
-        Ok(Drive { bytes, works })
+        let front = Front::new(heap, bytes.len() / SECTOR, CAPACITY, named)?;
+        let buffer = Buffer::new(heap, Row { bytes, named })?;
+        Ok(Drive {
+            front,
+            arm: 0,
+            buffer,
+        })
     }
 }
 
+// The memory disk's impl is alike: a generic one would put a trait of five ghost members and its laws where one-line answers stand.
 impl Device for Drive<'_> {
-    ghost meaning = { λ d. means d.works d.bytes.now };
+    ghost meaning = { means };
 
-    ghost kept = { λ d. Holds d.works d.bytes.now };
+    ghost sound = { sound_drive };
 
-    ghost sound = { λ d k. sound_drive d.works d.bytes.now k };
-
-    ghost does = { λ d e x. Acts d.works d.bytes.now e x.works x.bytes.now };
+    ghost does = { Acts };
 
     fn size(&self) -> u32 {
-        self.works.front.size
+        self.front.size
     }
 
     fn capacity(&self) -> u32 {
-        self.works.front.capacity
+        self.front.capacity
     }
 
     fn height(&self) -> u8 {
@@ -41,43 +50,34 @@ impl Device for Drive<'_> {
     }
 
     fn open_tickets(&self) -> u32 {
-        self.works.front.open_tickets()
+        self.front.open_tickets()
     }
 
     fn tag_at(&self, i: u32) -> Option<u32> {
-        self.works.front.tag_at(i)
+        self.front.tag_at(i)
     }
 
     fn state(&self, tag: u32) -> State {
-        self.works.front.state(tag)
+        self.front.state(tag)
     }
 
     fn byte_count(&self, tag: u32) -> u32 {
-        self.works.front.byte_count(tag) as u32
+        self.front.byte_count(tag)
     }
 
     fn home(&self, sector: u32) -> Option<Home> {
-        if sector < self.works.front.size {
-            Some(Home { height: 0, sector })
-        } else {
-            None
-        }
+        self.front.home(sector)
     }
 
     fn submit(&mut self, request: Request, bytes: &[u8], _tick: u32) -> Result<(), Refusal> {
-        self.works.submit(request, bytes)
+        self.front.submit(request, bytes)
     }
 
     fn turn(&mut self, _tick: u32) -> u32 {
-        let Drive { bytes, works } = self;
-        // The bytes are as long as they were at set-up, so this never happens.
-        if bytes.len() < works.front.size as usize * SECTOR {
-            return 0;
-        }
-        works.turn(bytes)
+        self.serve_oldest()
     }
 
     fn collect(&mut self, tag: u32, buffer: &mut [u8]) -> Result<u8, Refusal> {
-        self.works.collect(tag, buffer)
+        self.front.collect(tag, buffer)
     }
 }

@@ -1,15 +1,16 @@
 // How a drive serves a ticket.
-ghost use Rattle.std.specs.Prelude.{◌≡◌, ℕ, ◌+◌, ◌*◌, ◌≤◌, true, [], length, vec_capacity};
+ghost use Rattle.std.specs.Prelude.{◌≡◌, ℕ, ◌+◌, ◌*◌, ◌≤◌, length};
 ghost use Rattle.device.specs.Meaning.{sector_bytes, longest_run};
 ghost use Rattle.device.specs.Sound.{most_sectors};
-ghost use Rattle.tickets.specs.Front.{served, places_as};
-ghost use Rattle.tickets.specs.Open.{places_of, oldest_of, SameFront};
-ghost use Rattle.drive.specs.Buffer.{buffer_size, all_lie};
-ghost use Rattle.drive.specs.Service.{sight, travel, cost_as, arm_as, entries_as, row_as, turn_ticks, turn_arm, turn_entries, turn_row};
+ghost use Rattle.tickets.specs.Front.{served};
+ghost use Rattle.tickets.specs.Open.{places_of, SameFront};
+ghost use Rattle.drive.specs.Service.{sight, travel, cost_as, arm_as, entries_as, row_as};
+ghost use Rattle.drive.specs.Turn.{turned_ticks, turned_places, turned_arm, turned_buffer, turned_bytes};
 
-use crate::buffer::{Entry, bring_run, put_all, read_over};
+use crate::buffer::Buffer;
+use crate::drive::Drive;
 use device::{Kind, SECTOR};
-use tickets::{Front, Place};
+use tickets::Place;
 
 /// The sectors that the arm passes in a tick.
 const STRIDE: u32 = 16;
@@ -26,81 +27,50 @@ fn seek(arm: &mut u32, first: u32, count: u32) -> u32
 }
 
 /// Serves a ticket: the place that is lent turns from waiting to ready.
-fn serve(
-    place: &mut Place,
-    arm: &mut u32,
-    entries: &mut Vec<Entry>,
-    named: &[u32; 8],
-    memory: &mut [u8],
-) -> u32
-    requires room { buffer_size ≤ vec_capacity entries.old }
-    requires most { length entries.old.items ≤ buffer_size }
-    requires lie { all_lie (length memory.old) entries.old.items ≡ true }
-    requires fits { (place.old.first + place.old.count) * sector_bytes ≤ length memory.old }
+fn serve(place: &mut Place, arm: &mut u32, buffer: &mut Buffer) -> u32
+    requires fits { (place.old.first + place.old.count) * sector_bytes ≤ length buffer.old.row.bytes.now }
     requires low { place.old.first + place.old.count ≤ most_sectors }
     requires short { place.old.count ≤ longest_run }
-    ensures ticks { result ≡ cost_as place.old.kind arm.old place.old entries.old.items }
-    ensures readies { place.new ≡ served (sight named.now entries.old.items memory.old) place.old }
+    ensures ticks { result ≡ cost_as place.old.kind arm.old place.old buffer.old.entries.items }
+    ensures readies { place.new ≡ served (sight buffer.old.row.named buffer.old.entries.items buffer.old.row.bytes.now) place.old }
     ensures arm { arm.new ≡ arm_as place.old.kind arm.old place.old }
-    ensures entries { entries.new.items ≡ entries_as place.old.kind named.now place.old entries.old.items }
-    ensures capacity { vec_capacity entries.new ≡ vec_capacity entries.old }
-    ensures memory { memory.new ≡ row_as place.old.kind named.now place.old entries.old.items memory.old }
+    ensures entries { buffer.new.entries.items ≡ entries_as place.old.kind buffer.old.row.named place.old buffer.old.entries.items }
+    ensures bytes { buffer.new.row.bytes.now ≡ row_as place.old.kind buffer.old.row.named place.old buffer.old.entries.items buffer.old.row.bytes.now }
+    ensures named { buffer.new.row.named ≡ buffer.old.row.named }
 {
     place.ready = true;
     match place.kind {
         Kind::Read => {
-            read_over(
-                entries,
-                memory,
-                named,
-                place.first,
-                place.count,
-                &mut place.bytes,
-            );
+            buffer.read_run(place.first, place.count, &mut place.bytes);
             seek(arm, place.first, place.count)
         }
         Kind::Write => {
             let n = place.count as usize * SECTOR;
-            bring_run(
-                entries,
-                memory,
-                named,
-                place.first,
-                place.count,
-                &place.bytes[0..n],
-            );
+            buffer.bring_run(place.first, place.count, &place.bytes[..n]);
             seek(arm, place.first, place.count)
         }
         Kind::Flush => {
-            let put = entries.len() as u32;
-            put_all(entries, memory, named);
+            let put = buffer.entries.len() as u32;
+            buffer.put_all();
             1 + put
         }
     }
 }
 
-/// Serves the oldest ticket that waits, and answers the ticks.
-pub(crate) fn serve_oldest(
-    front: &mut Front,
-    arm: &mut u32,
-    entries: &mut Vec<Entry>,
-    memory: &mut [u8],
-) -> u32
-    requires room { buffer_size ≤ vec_capacity entries.old }
-    requires most { length entries.old.items ≤ buffer_size }
-    requires lie { all_lie (front.old.size * sector_bytes) entries.old.items ≡ true }
-    requires holds { front.old.size * sector_bytes ≤ length memory.old }
-    ensures ticks { result ≡ turn_ticks (oldest_of front.old) (places_of front.old) arm.old entries.old.items }
-    ensures places { places_of front.new ≡ places_as (oldest_of front.old) (sight front.old.named entries.old.items memory.old) (places_of front.old) }
-    ensures arm { arm.new ≡ turn_arm (oldest_of front.old) (places_of front.old) arm.old }
-    ensures entries { entries.new.items ≡ turn_entries (oldest_of front.old) front.old.named (places_of front.old) entries.old.items }
-    ensures memory { memory.new ≡ turn_row (oldest_of front.old) front.old.named (places_of front.old) entries.old.items memory.old }
-    ensures room { vec_capacity entries.new ≡ vec_capacity entries.old }
-    ensures shape { SameFront front.old front.new }
-{
-    let Some(i) = front.oldest_waiting() else {
-        return 0;
-    };
-    let named = front.named;
-    serve(&mut front.table.places[i], arm, entries, &named, memory)
+impl Drive<'_> {
+    /// Serves the oldest ticket that waits, and answers the ticks.
+    pub(crate) fn serve_oldest(&mut self) -> u32
+        ensures ticks { result ≡ turned_ticks self.old }
+        ensures places { places_of self.new.front ≡ turned_places self.old }
+        ensures arm { self.new.arm ≡ turned_arm self.old }
+        ensures entries { self.new.buffer.entries.items ≡ turned_buffer self.old }
+        ensures bytes { self.new.buffer.row.bytes.now ≡ turned_bytes self.old }
+        ensures shape { SameFront self.old.front self.new.front }
+    {
+        let Drive { front, arm, buffer } = self;
+        let Some(i) = front.oldest_waiting() else {
+            return 0;
+        };
+        serve(&mut front.places[i], arm, buffer)
+    }
 }

@@ -1,5 +1,5 @@
 -- What a turn of a memory disk does, over its places and its bytes.
-use Rattle.std.proofs.Common.{◌≡◌, ℕ, ◌*◌, ◌≤◌, Bool, true, false, cond, not, ◌&&◌, ltb, List, length, get_or, Some, None, Option, sym, refl, ap, ◌∙◌, arith}
+use Rattle.std.proofs.Common.{◌≡◌, ℕ, ◌*◌, ◌≤◌, Bool, true, false, cond, not, ◌&&◌, ltb, List, length, get_or, Some, None, Option, sym, refl, ◌∙◌, arith}
 use Rattle.std.proofs.lemmas.Bool.{cond-true, cond-false, and_parts, and_from, and_right, not_from_false}
 use Rattle.device.specs.declared.interface.Kind.{Kind}
 use Rattle.device.specs.declared.interface.Kind.TheVariants.{Read, Write, Flush}
@@ -8,7 +8,7 @@ use Rattle.device.specs.Turns.{Turned}
 use Rattle.sectors.specs.Memory.{listed, names, seen}
 use Rattle.sectors.specs.Shown.{bad_of, shown, Spares}
 use Rattle.sectors.proofs.Runs.{length_seen}
-use Rattle.sectors.proofs.Parts.{run_spares, run_past, shown_run, seen_shown}
+use Rattle.sectors.proofs.Parts.{length_run, run_spares, run_past, shown_run, seen_shown}
 use Rattle.tickets.specs.declared.place.Place.{Place}
 use Rattle.tickets.specs.Places.{first_waiting}
 use Rattle.tickets.specs.Front.{blank, places_as, served}
@@ -23,10 +23,14 @@ use Rattle.memory_disk.specs.Means.{meant}
 use Rattle.memory_disk.specs.Stored.{stored_as, stored}
 use Rattle.memory_disk.specs.Turn.{ticks_as, bytes_as}
 
-pub moved : {size size' most most' : ℕ} {named named' : List ℕ} {ps ps' : List Place} {row row' : List ℕ} → size' ≡ size → most' ≡ most → named' ≡ named → ps' ≡ ps → row' ≡ row
-    → meant size' most' named' ps' row' ≡ meant size most named ps row
-moved {size} {size'} {most} {most'} {named} {named'} {ps} {ps'} {row} {row'} a m b c d =
-    ap (λ x. meant x most' named' ps' row') a ∙ (ap (λ x. meant size x named' ps' row') m ∙ (ap (λ x. meant size most x ps' row') b ∙ (ap (λ x. meant size most named x row') c ∙ ap (meant size most named ps) d)))
+-- what a ticket stores leaves the length of the row
+pub stored_length : (size : ℕ) (named named' : List ℕ) (p : Place) (memory : List ℕ) → size * 128 ≤ length memory → (k : Kind) → Fits size (names named) p → length (stored_as k named' p memory) ≡ length memory
+stored_length size named named' p memory h Read f = refl
+stored_length size named named' p memory h Flush f = refl
+stored_length size named named' p memory h Write f =
+    let n = length_held size (names named) p f in
+    let i = f.inside in
+    length_run named' p.first (held p) memory p.count (omega (arith, n)) (omega arith)
 
 module _ (size most : ℕ) (named : List ℕ) (ps : List Place) (memory : List ℕ) (holds : size * 128 ≤ length memory)
     (k : Kept size most named ps (shown size named memory) (shown size named memory)) where

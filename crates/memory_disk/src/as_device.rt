@@ -1,12 +1,12 @@
 // The memory disk as a device.
 ghost use Rattle.std.specs.Prelude.{◌≡◌, ℕ, [], IfOk};
-ghost use Rattle.memory_disk.specs.Means.{Holds, means, set_up};
-ghost use Rattle.memory_disk.specs.Turn.{Acts};
+ghost use Rattle.memory_disk.specs.Means.{set_up};
+ghost use Rattle.memory_disk.specs.Turn.{means, Acts};
 ghost use Rattle.memory_disk.specs.SoundFacts.{sound_disk};
 
 use crate::disk::MemoryDisk;
-use crate::service::turn;
 use device::{Device, Home, Refusal, Request, SECTOR, State};
+use sectors::Row;
 use std::alloc::{AllocError, Global};
 use tickets::Front;
 
@@ -20,21 +20,21 @@ impl<'a> MemoryDisk<'a> {
         bytes: &'a mut [u8],
         named: [u32; 8],
     ) -> Result<MemoryDisk<'a>, AllocError>
-        ensures { IfOk result (λ d. Holds d.front d.bytes.now × (d.bytes.now ≡ bytes.old) × (means d.front d.bytes.now ≡ set_up named bytes.old)) }
+        ensures { IfOk result (λ d. (d.row.bytes.now ≡ bytes.old) × (means d ≡ set_up named bytes.old)) }
     {
         let front = Front::new(heap, bytes.len() / SECTOR, CAPACITY, named)?;
-        Ok(MemoryDisk { bytes, front })
+        let row = Row { bytes, named };
+        Ok(MemoryDisk { row, front })
     }
 }
 
+// The drive's impl is alike: a generic one would put a trait of five ghost members and its laws where one-line answers stand.
 impl Device for MemoryDisk<'_> {
-    ghost meaning = { λ d. means d.front d.bytes.now };
+    ghost meaning = { means };
 
-    ghost kept = { λ d. Holds d.front d.bytes.now };
+    ghost sound = { sound_disk };
 
-    ghost sound = { λ d k. sound_disk d.front d.bytes.now k };
-
-    ghost does = { λ d e x. Acts d.front d.bytes.now e x.front x.bytes.now };
+    ghost does = { Acts };
 
     fn size(&self) -> u32 {
         self.front.size
@@ -61,15 +61,11 @@ impl Device for MemoryDisk<'_> {
     }
 
     fn byte_count(&self, tag: u32) -> u32 {
-        self.front.byte_count(tag) as u32
+        self.front.byte_count(tag)
     }
 
     fn home(&self, sector: u32) -> Option<Home> {
-        if sector < self.front.size {
-            Some(Home { height: 0, sector })
-        } else {
-            None
-        }
+        self.front.home(sector)
     }
 
     fn submit(&mut self, request: Request, bytes: &[u8], _tick: u32) -> Result<(), Refusal> {
@@ -77,12 +73,7 @@ impl Device for MemoryDisk<'_> {
     }
 
     fn turn(&mut self, _tick: u32) -> u32 {
-        let MemoryDisk { bytes, front } = self;
-        // The bytes are as long as they were at set-up, so this never happens.
-        if bytes.len() < front.size as usize * SECTOR {
-            return 0;
-        }
-        turn(front, bytes)
+        self.serve_oldest()
     }
 
     fn collect(&mut self, tag: u32, buffer: &mut [u8]) -> Result<u8, Refusal> {

@@ -7,40 +7,43 @@ ghost use Rattle.tickets.specs.Open.{places_of, oldest_of, SameFront};
 ghost use Rattle.memory_disk.specs.Stored.{stored};
 ghost use Rattle.memory_disk.specs.Turn.{turn_ticks, turned_bytes};
 
+use crate::disk::MemoryDisk;
 use device::{Kind, SECTOR};
-use sectors::{read_run, write_run};
-use tickets::{Front, Place};
+use sectors::Row;
+use tickets::Place;
 
 /// Serves a ticket: the place that is lent turns from waiting to ready.
-fn serve(place: &mut Place, named: &[u32; 8], memory: &mut [u8])
-    requires fits { (place.old.first + place.old.count) * sector_bytes ≤ length memory.old }
+fn serve(place: &mut Place, row: &mut Row)
+    requires fits { (place.old.first + place.old.count) * sector_bytes ≤ length row.old.bytes.now }
     requires short { place.old.count ≤ longest_run }
-    ensures readies { place.new ≡ served (seen named.now memory.old) place.old }
-    ensures stores { memory.new ≡ stored named.now place.old memory.old }
+    ensures readies { place.new ≡ served (seen row.old.named row.old.bytes.now) place.old }
+    ensures stores { row.new.bytes.now ≡ stored row.old.named place.old row.old.bytes.now }
+    ensures named { row.new.named ≡ row.old.named }
 {
     match place.kind {
-        Kind::Read => read_run(memory, named, place.first, place.count, &mut place.bytes),
+        Kind::Read => row.read_run(place.first, place.count, &mut place.bytes),
         Kind::Write => {
             let n = place.count as usize * SECTOR;
-            write_run(memory, named, place.first, place.count, &place.bytes[0..n]);
+            row.write_run(place.first, place.count, &place.bytes[..n]);
         }
         Kind::Flush => {}
     }
     place.ready = true;
 }
 
-/// Serves the oldest ticket that waits, and answers the ticks.
-pub(crate) fn turn(front: &mut Front, memory: &mut [u8]) -> u32
-    requires { front.old.size * sector_bytes ≤ length memory.old }
-    ensures ticks { result ≡ turn_ticks front.old }
-    ensures places { places_of front.new ≡ places_as (oldest_of front.old) (seen front.old.named memory.old) (places_of front.old) }
-    ensures memory { memory.new ≡ turned_bytes front.old memory.old }
-    ensures shape { SameFront front.old front.new }
-{
-    let Some(i) = front.oldest_waiting() else {
-        return 0;
-    };
-    let named = front.named;
-    serve(&mut front.table.places[i], &named, memory);
-    1
+impl MemoryDisk<'_> {
+    /// Serves the oldest ticket that waits, and answers the ticks.
+    pub(crate) fn serve_oldest(&mut self) -> u32
+        ensures ticks { result ≡ turn_ticks self.old }
+        ensures places { places_of self.new.front ≡ places_as (oldest_of self.old.front) (seen self.old.front.named self.old.row.bytes.now) (places_of self.old.front) }
+        ensures bytes { self.new.row.bytes.now ≡ turned_bytes self.old }
+        ensures shape { SameFront self.old.front self.new.front }
+    {
+        let MemoryDisk { row, front } = self;
+        let Some(i) = front.oldest_waiting() else {
+            return 0;
+        };
+        serve(&mut front.places[i], row);
+        1
+    }
 }

@@ -1,20 +1,7 @@
-use Rattle.std.proofs.Common.{◌∙◌, arith}
-use Rattle.tickets.specs.Open.{places_of}
-use Rattle.sectors.specs.Memory.{names}
-use Rattle.sectors.specs.Shown.{shown}
-use Rattle.tickets.proofs.CallFacts.{count_fits, count_same}
+use Rattle.std.proofs.Common.{◌∙◌}
+use Rattle.tickets.proofs.KeptCalls.{count_kept}
 use Rattle.memory_disk.specs.SoundFacts.{kept_of}
 use Rattle.memory_disk.proofs.as_device.MemoryDiskDevice.byte_count.Goals as goal
 
-pub overflow_cast-result : goal.overflow_cast-result
-overflow_cast-result c =
-    let f = c.args.self.now.front in
-    let le = count_fits f.size (names f.named) (places_of f) c.args.tag f.well in
-    omega (arith, le, c.byte_count.ensures)
-
 pub returns : goal.returns
-returns c h =
-    let f = c.args.self.now.front in
-    let ps = places_of f in
-    let row = c.args.self.now.bytes.now in
-    c.byte_count.ensures ∙ count_same f.size f.capacity f.named ps (shown f.size f.named row) (shown f.size f.named row) (kept_of f row h) c.args.tag
+returns c = c.byte_count.ensures ∙ count_kept (kept_of c.args.self.now) c.args.tag

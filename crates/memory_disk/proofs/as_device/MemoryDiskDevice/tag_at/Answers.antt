@@ -1,12 +1,7 @@
-use Rattle.std.proofs.Common.{sym, ◌∙◌}
-use Rattle.tickets.specs.Open.{places_of}
-use Rattle.sectors.specs.Shown.{bad_of, shown}
-use Rattle.tickets.proofs.MeantFacts as over
+use Rattle.std.proofs.Common.{◌∙◌}
+use Rattle.tickets.proofs.KeptCalls.{tag_kept}
+use Rattle.memory_disk.specs.SoundFacts.{kept_of}
 use Rattle.memory_disk.proofs.as_device.MemoryDiskDevice.tag_at.Goals as goal
 
 pub returns : goal.returns
-returns c h =
-    let f = c.args.self.now.front in
-    let ps = places_of f in
-    let row = c.args.self.now.bytes.now in
-    c.tag_at.ensures ∙ sym (over.tag_over (bad_of f.size f.named) c.args.i ps (shown f.size f.named row))
+returns c = c.tag_at.ensures ∙ tag_kept (kept_of c.args.self.now) c.args.i
