@@ -1,3 +1,7 @@
 mod Masks
-mod MirrorCalls
-mod MirrorTurns
+mod Rows
+mod Tickets
+mod Admission
+mod Submits
+mod Collects
+mod Turns

@@ -1,3 +1,4 @@
 pub mod Means
 pub mod Turn
 pub mod SoundFacts
+pub mod LevelFacts

@@ -1,11 +1,12 @@
 -- Two devices as one, by the meanings of the two.
-use Rattle.std.specs.Prelude.{◌≡◌, ℕ, zero, suc, ◌+◌, ◌/◌, ◌%◌, ◌^◌, min, max, Bool, false, cond, ◌&&◌, ◌||◌, List, [], ◌∷◌, ◌++◌, length, Ok, Err, Result, ◌==◌, nat_lt}
+use Rattle.std.specs.Prelude.{◌≡◌, ℕ, zero, suc, ◌+◌, ◌/◌, ◌%◌, ◌^◌, min, max, Bool, cond, ◌&&◌, ◌||◌, List, [], ◌∷◌, ◌++◌, length, Ok, Err, Result, ◌==◌, nat_lt}
 use Rattle.device.specs.declared.interface.Kind.{Kind}
 use Rattle.device.specs.declared.interface.Kind.TheVariants.{Read, Write, Flush}
 use Rattle.device.specs.declared.interface.Cause.{Cause}
 use Rattle.device.specs.declared.interface.Refusal.{Refusal}
 use Rattle.device.specs.Meaning.{Meaning, Ticket, Contents, mask_of, part}
 use Rattle.device.specs.Layers.{layer_height}
+use Rattle.gate.specs.Means.{gated}
 
 -- the first sectors of two rows of bytes: the second row's where the test says so
 abbrev pub picked : (ℕ → Bool) → ℕ → List ℕ → List ℕ → List ℕ
@@ -47,17 +48,17 @@ all_paired p q [] ys = []
 all_paired p q (x ∷ xs) [] = []
 all_paired p q (x ∷ xs) (y ∷ ys) = paired p q x y ∷ all_paired p q xs ys
 
--- what a mirror means over its two sides; a closed one has no place for tickets and only asks questions below
-abbrev pub mirrored : Bool → Meaning → Meaning → Meaning
-mirrored closed a b = record {
+-- what a mirror means over its two sides
+abbrev pub mirrored : Meaning → Meaning → Meaning
+mirrored a b = record {
   size = min a.size b.size;
-  capacity = cond closed 0 (min a.capacity b.capacity);
+  capacity = min a.capacity b.capacity;
   height = layer_height (max a.height b.height);
   bad = both a.bad b.bad;
   home = λ s. record { height = layer_height (max a.height b.height); sector = s };
   disk = either a.bad a.disk b.disk;
   medium = either a.bad a.medium b.medium;
-  tickets = cond closed [] (all_paired a.bad b.bad a.tickets b.tickets);
+  tickets = all_paired a.bad b.bad a.tickets b.tickets;
 }
 
 -- the two sides' tickets of one request
@@ -74,9 +75,9 @@ Agree [] (y ∷ ys) = ⊥
 Agree (x ∷ xs) [] = ⊥
 Agree (x ∷ xs) (y ∷ ys) = Alike x y × Agree xs ys
 
--- both sides hold the same requests, unless the mirror is closed
-abbrev pub Level : Bool → Meaning → Meaning → Type 0
-Level closed a b = closed ≡ false → Agree a.tickets b.tickets
+-- both sides hold the same requests
+abbrev pub Level : Meaning → Meaning → Type 0
+Level a b = Agree a.tickets b.tickets
 
 -- the number of bytes that a collect hands over
 abbrev pub room_due : Result Ticket Cause → Result ℕ Cause
@@ -92,6 +93,6 @@ answered (Err f) = 0
 abbrev pub shut_both : Meaning → Meaning → Bool
 shut_both a b = (nat_lt 0 (length a.tickets) || nat_lt 0 (length b.tickets)) || min a.capacity b.capacity == 0
 
--- the meaning of a mirror at set-up
+-- the meaning of a mirror at set-up: over gates that are shut together
 abbrev pub set_up : Meaning → Meaning → Meaning
-set_up a b = mirrored (shut_both a b) a b
+set_up a b = mirrored (gated (shut_both a b) a) (gated (shut_both a b) b)

@@ -1,5 +1,5 @@
 -- What a call of a mirror does beyond its meaning: a submit and a collect are one of each side, a turn runs both sides dry, and a
--- closed mirror calls neither.
+-- shut mirror calls neither.
 use Rattle.std.specs.Prelude.{◌≡◌, ℕ, max, Bool, true, false, List, Ok, Err, Result}
 use Rattle.device.specs.declared.interface.Refusal.{Refusal}
 use Rattle.device.specs.Meaning.{Meaning}
@@ -32,8 +32,8 @@ module _ {L R : Type 0} (left_means : L → Meaning) (left_does : L → Told →
     pub right : right_does y (collect tag right_given right_answer right_buffer) y'
 
   abbrev pub Acts : Bool → L → R → Told → L → R → Type 0
-  Acts closed x y (submit q b k (Ok u)) x' y' = BothSubmitted (submit q b k) x x' y y'
-  Acts closed x y (submit q b k (Err r)) x' y' = (x' ≡ x) × (y' ≡ y)
-  Acts closed x y (turn k n) x' y' = (closed ≡ true → (x' ≡ x) × (y' ≡ y)) × (closed ≡ false → Sides k x x' y y' n)
-  Acts closed x y (collect t g (Ok m) b) x' y' = BothCollected t g x x' y y'
-  Acts closed x y (collect t g (Err r) b) x' y' = (x' ≡ x) × (y' ≡ y)
+  Acts shut x y (submit q b k (Ok u)) x' y' = BothSubmitted (submit q b k) x x' y y'
+  Acts shut x y (submit q b k (Err r)) x' y' = (x' ≡ x) × (y' ≡ y)
+  Acts shut x y (turn k n) x' y' = (shut ≡ true → (x' ≡ x) × (y' ≡ y)) × (shut ≡ false → Sides k x x' y y' n)
+  Acts shut x y (collect t g (Ok m) b) x' y' = BothCollected t g x x' y y'
+  Acts shut x y (collect t g (Err r) b) x' y' = (x' ≡ x) × (y' ≡ y)

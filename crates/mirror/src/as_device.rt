@@ -1,119 +1,79 @@
 // The mirror as a device over any two devices.
-ghost use Rattle.std.specs.Prelude.{◌≡◌};
-ghost use Rattle.mirror.specs.Means.{mirrored, Level};
+ghost use Rattle.mirror.specs.Means.{mirrored};
 ghost use Rattle.mirror.specs.Turn.{Acts};
 ghost use Rattle.mirror.specs.SoundFacts.{mirrored_sound};
 
 use crate::mirror::Mirror;
 use crate::mix::{mask_in, patch};
-use device::{Device, Home, LONGEST_RUN, RUN_BYTES, Refusal, Request, SECTOR, State};
+use device::{Device, Home, RUN_BYTES, Refusal, Request, SECTOR, State, layer_height};
 use dry::run_dry;
+use gate::Gate;
 
 impl<L: Device, R: Device> Device for Mirror<L, R> {
-    ghost meaning = { λ d. mirrored d.closed (L.Device.meaning d.left) (R.Device.meaning d.right) };
+    ghost meaning = { λ d. mirrored (⟦<Gate<L> as Device>⟧.meaning d.left) (⟦<Gate<R> as Device>⟧.meaning d.right) };
 
-    ghost kept = { λ d. L.Device.kept d.left × R.Device.kept d.right × Level d.closed (L.Device.meaning d.left) (R.Device.meaning d.right) };
+    ghost sound = { λ d. mirrored_sound _ _ (⟦<Gate<L> as Device>⟧.sound d.left) (⟦<Gate<R> as Device>⟧.sound d.right) d.level };
 
-    ghost sound = { λ d k. mirrored_sound d.closed (L.Device.meaning d.left) (R.Device.meaning d.right) (L.Device.sound d.left k.0) (R.Device.sound d.right k.1) k.2 };
-
-    ghost does = { λ d e x. Acts L.Device.meaning L.Device.does R.Device.meaning R.Device.does d.closed d.left d.right e x.left x.right };
+    ghost does = { λ d e x. Acts L.meaning L.does R.meaning R.does d.left.shut d.left.lower d.right.lower e x.left.lower x.right.lower };
 
     fn size(&self) -> u32 {
-        self.sectors()
+        self.left.size().min(self.right.size())
     }
 
     fn capacity(&self) -> u32 {
-        if self.closed {
-            0
-        } else {
-            self.left.capacity().min(self.right.capacity())
-        }
+        self.left.capacity().min(self.right.capacity())
     }
 
     fn height(&self) -> u8 {
-        self.level()
+        layer_height(self.left.height().max(self.right.height()))
     }
 
     fn open_tickets(&self) -> u32 {
-        if self.closed {
-            0
-        } else {
-            self.left.open_tickets()
-        }
+        self.left.open_tickets()
     }
 
     fn tag_at(&self, i: u32) -> Option<u32> {
-        if self.closed {
-            None
-        } else {
-            self.left.tag_at(i)
-        }
+        self.left.tag_at(i)
     }
 
     fn state(&self, tag: u32) -> State {
-        if self.closed {
-            State::NotOpen
-        } else {
-            self.left.state(tag)
-        }
+        self.left.state(tag)
     }
 
     fn byte_count(&self, tag: u32) -> u32 {
-        if self.closed {
-            0
-        } else {
-            self.left.byte_count(tag)
-        }
+        self.left.byte_count(tag)
     }
 
     fn home(&self, sector: u32) -> Option<Home> {
-        if sector < self.sectors() {
-            Some(Home {
-                height: self.level(),
-                sector,
-            })
-        } else {
-            None
-        }
+        (sector < self.size()).then(|| Home {
+            height: self.height(),
+            sector,
+        })
     }
 
     fn submit(&mut self, request: Request, bytes: &[u8], tick: u32) -> Result<(), Refusal> {
-        match self.admit(request, bytes.len()) {
-            Err(cause) => Err(self.refused(cause)),
-            Ok(_) => {
-                // Neither side refuses what the mirror admits.
-                let _ = self.left.submit(request, bytes, tick);
-                let _ = self.right.submit(request, bytes, tick);
-                Ok(())
-            }
-        }
+        self.admit(request, bytes.len())
+            .map_err(|cause| self.refused(cause))?;
+        // Neither side refuses what the mirror admits.
+        let _ = self.left.submit(request, bytes, tick);
+        let _ = self.right.submit(request, bytes, tick);
+        Ok(())
     }
 
     fn turn(&mut self, tick: u32) -> u32 {
-        if self.closed {
-            return 0;
-        }
-        let first = run_dry(&mut self.left, tick);
-        let second = run_dry(&mut self.right, tick);
-        first.max(second)
+        run_dry(&mut self.left, tick).max(run_dry(&mut self.right, tick))
     }
 
     fn collect(&mut self, tag: u32, buffer: &mut [u8]) -> Result<u8, Refusal> {
-        match self.bytes_due(tag, buffer.len()) {
-            Err(cause) => Err(self.refused(cause)),
-            Ok(n) => {
-                let mut other = [0u8; RUN_BYTES];
-                // Neither side refuses what the mirror has ready.
-                let first = mask_in(self.left.collect(tag, buffer));
-                let second = mask_in(self.right.collect(tag, &mut other));
-                patch(
-                    buffer,
-                    &other,
-                    first,
-                    (n / SECTOR).min(LONGEST_RUN as usize),
-                );
-                Ok(first & second)
-            }
-        }
+        let n = self
+            .bytes_due(tag, buffer.len())
+            .map_err(|cause| self.refused(cause))?;
+        // Room for the longest run: memory is fixed, and a collect allocates nothing.
+        let mut other = [0; RUN_BYTES];
+        // Neither side refuses what the mirror has ready.
+        let first = mask_in(self.left.collect(tag, buffer));
+        let second = mask_in(self.right.collect(tag, &mut other));
+        patch(buffer, &other, first, n / SECTOR);
+        Ok(first & second)
     }
 }

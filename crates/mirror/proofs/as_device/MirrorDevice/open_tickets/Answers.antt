@@ -1,9 +1,9 @@
 use Rattle.std.proofs.Common.{sym, ◌∙◌}
-use Rattle.mirror.proofs.MirrorCalls.{shows}
+use Rattle.mirror.proofs.Tickets.{shows}
 use Rattle.mirror.proofs.as_device.MirrorDevice.open_tickets.Goals as goal
 
-pub returns-else-self : goal.returns-else-self
-returns-else-self g c = λ k.
+pub returns : goal.returns
+returns g c =
     let d = c.args.self.now in
-    let s = shows d.closed (g.L.Device.meaning d.left) (g.R.Device.meaning d.right) c.if-self.false (g.L.Device.sound d.left k.0) (g.R.Device.sound d.right k.1) k.2 in
-    c.open_tickets.ensures k.0 ∙ sym s.many
+    let s = shows d.left.shut d.right.shut (g.L.Device.sound d.left.lower) (g.R.Device.sound d.right.lower) d.level in
+    c.open_tickets.ensures ∙ sym s.many

@@ -1,49 +1,37 @@
-use Rattle.std.proofs.Common.{sym, refl, subst}
-use Rattle.std.proofs.lemmas.Bool.{both_ways}
-use Rattle.device.specs.Turns.{Turned}
-use Rattle.dry.proofs.DryFacts.{Dried, dried}
-use Rattle.mirror.specs.Means.{mirrored}
-use Rattle.mirror.proofs.MirrorTurns.{turns_both, turns_closed}
+use Rattle.std.proofs.Common.{max, sym, ◌∙◌}
+use Rattle.gate.specs.Means.{gated}
+use Rattle.mirror.proofs.Turns.{BothTurn, turns_both, turning_same, turning_shut, dry_open, gate_dried}
+use Rattle.mirror.proofs.as_device.MirrorDevice.turn.Goals.{After-run_dry-2}
 use Rattle.mirror.proofs.as_device.MirrorDevice.turn.Goals as goal
 
-pub returns-then-self : goal.returns-then-self
-returns-then-self g c =
+turned : (g : _) (c : After-run_dry-2 g) → let d = c.args.self.now in let x = c.run_dry.new.device in let y = c.run_dry-2.new.device in
+    BothTurn (gated d.left.shut (g.L.Device.meaning d.left.lower)) (gated d.right.shut (g.R.Device.meaning d.right.lower)) (gated x.shut (g.L.Device.meaning x.lower)) (gated y.shut (g.R.Device.meaning y.lower))
+    (max c.run_dry.result c.run_dry-2.result)
+turned g c =
     let d = c.args.self.now in
-    record {
-      keeps = λ k. k;
-      turns = λ k. turns_closed d.closed (g.L.Device.meaning d.left) (g.R.Device.meaning d.right) c.if-self.true;
-      did = λ k. ((λ o. (refl, refl)), (λ o. absurd (both_ways d.closed o c.if-self.true)));
-    }
+    turns_both _ _ d.level (gate_dried g.L.Device.meaning g.L.Device.does c.args.tick (g.L.Device.sound d.left.lower) c.run_dry.ensures)
+    (gate_dried g.R.Device.meaning g.R.Device.does c.args.tick (g.R.Device.sound d.right.lower) c.run_dry-2.ensures)
 
-pub returns : goal.returns
-returns g c =
-    let d = c.args.self.now in
-    let a = g.L.Device.meaning d.left in
-    let b = g.R.Device.meaning d.right in
-    let a' = g.L.Device.meaning c.run_dry-first.new.device in
-    let b' = g.R.Device.meaning c.run_dry-second.new.device in
-    let e = c.run_dry-first.ensures in
-    let f = c.run_dry-second.ensures in
-    let left : g.L.Device.kept d.left → Dried a a' c.run_dry-first.result
-    = λ k. dried g.L.Device.meaning g.L.Device.does c.args.tick d.left c.run_dry-first.new.device c.run_dry-first.result (e.dries k) (g.L.Device.sound d.left k).flush_order in
-    let right : g.R.Device.kept d.right → Dried b b' c.run_dry-second.result
-    = λ k. dried g.R.Device.meaning g.R.Device.does c.args.tick d.right c.run_dry-second.new.device c.run_dry-second.result (f.dries k) (g.R.Device.sound d.right k).flush_order in
-    record {
-      keeps = λ k. (
-        e.keeps k.0,
-        f.keeps k.1,
-        (turns_both d.closed a b a' b' c.run_dry-first.result c.run_dry-second.result c.if-self.false (left k.0) (right k.1) k.2).0,
-      );
-      turns = λ k. subst (Turned (mirrored d.closed a b) (mirrored d.closed a' b')) (sym c.max.ensures)
-          (turns_both d.closed a b a' b' c.run_dry-first.result c.run_dry-second.result c.if-self.false (left k.0) (right k.1) k.2).1;
-      did = λ k. (
-        (λ o. absurd (both_ways d.closed c.if-self.false o)),
-        (λ o. record {
-          left_ticks = c.run_dry-first.result;
-          right_ticks = c.run_dry-second.result;
-          left = e.dries k.0;
-          right = f.dries k.1;
-          answer = c.max.ensures;
-        }),
-      );
-    }
+pub invariant_of-self : goal.invariant_of-self
+invariant_of-self g c =
+    let e = turning_same g.L.Device.meaning g.L.Device.does c.args.tick c.run_dry.ensures.turned in
+    let f = turning_same g.R.Device.meaning g.R.Device.does c.args.tick c.run_dry-2.ensures.turned in
+    record { together = f ∙ (c.args.self.now.together ∙ sym e); level = (turned g c).level }
+
+pub returns-clause-turns : goal.returns-clause-turns
+returns-clause-turns g c = rw c.max.ensures (turned g (goal.at.returns-clause-turns g c).After-run_dry-2).turned
+
+pub returns-clause-did : goal.returns-clause-did
+returns-clause-did g c =
+    let t = c.args.self.now.together in
+    let e = c.run_dry.ensures in
+    let f = c.run_dry-2.ensures in (
+      (λ s. (turning_shut g.L.Device.meaning g.L.Device.does c.args.tick e.turned s, turning_shut g.R.Device.meaning g.R.Device.does c.args.tick f.turned (t ∙ s))),
+      (λ s. record {
+        left_ticks = c.run_dry.result;
+        right_ticks = c.run_dry-2.result;
+        left = dry_open g.L.Device.meaning g.L.Device.does c.args.tick e s;
+        right = dry_open g.R.Device.meaning g.R.Device.does c.args.tick f (t ∙ s);
+        answer = c.max.ensures;
+      }),
+    )

@@ -1,11 +1,6 @@
-use Rattle.std.proofs.Common.{sym, ap, ◌∙◌}
-use Rattle.device.specs.Questions.{byte_count}
-use Rattle.offset.specs.Means.{all_shifted}
-use Rattle.offset.proofs.OffsetCalls.{opened, count_shifted}
+use Rattle.std.proofs.Common.{sym, ◌∙◌}
+use Rattle.offset.proofs.OffsetCalls.{count_shifted}
 use Rattle.offset.proofs.as_device.OffsetDevice.byte_count.Goals as goal
 
-pub returns-else-self : goal.returns-else-self
-returns-else-self g c = λ k.
-    let d = c.args.self.now in
-    let ts = (g.D.Device.meaning d.lower).tickets in
-    c.byte_count.ensures k.0 ∙ sym (ap (byte_count c.args.tag) (opened d.closed (all_shifted d.base ts) c.if-self.false) ∙ count_shifted d.base c.args.tag ts)
+pub returns : goal.returns
+returns g c = c.byte_count.ensures ∙ sym (count_shifted c.args.self.now.base c.args.tag _)

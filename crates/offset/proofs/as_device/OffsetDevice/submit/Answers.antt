@@ -1,43 +1,40 @@
-use Rattle.std.proofs.Common.{length, Err, sym, ap, ◌∙◌, subst}
+use Rattle.std.proofs.Common.{length, rules, sym, ap, ◌∙◌, subst, ap₂}
 use Rattle.device.specs.Submit.{form}
-use Rattle.device.specs.Told.{submit as told_submit}
+use Rattle.gate.specs.Means.{gated}
+use Rattle.gate.specs.Turn.{Passed}
 use Rattle.offset.specs.Means.{Within, over}
-use Rattle.offset.proofs.OffsetCalls.{Submits, submits, refused_same, height_submitted}
+use Rattle.offset.proofs.OffsetCalls.{acted, at_height, mapped, passed, Submits, submits}
+use Rattle.offset.proofs.as_device.OffsetDevice.submit.Goals.{After-submit, in-Read, in-Flush}
 use Rattle.offset.proofs.as_device.OffsetDevice.submit.Goals as goal
 
-pub returns-in-Ok-submit : goal.returns-in-Ok-submit
-returns-in-Ok-submit g c =
+sent : (g : _) (c : After-submit g) → Submits c.args.self.now.base c.args.self.now.most
+    (gated c.args.self.now.lower.shut (g.D.Device.meaning c.args.self.now.lower.lower)) c.args.request
+    (record { tag = c.args.request.tag; kind = c.args.request.kind; first = c.match-kind.first; count = c.args.request.count }) c.args.bytes.now
+sent g c =
     let d = c.args.self.now in
     let q = c.args.request in
-    let row = c.args.bytes.now in
-    let m = g.D.Device.meaning d.lower in
-    let e = c.submit.ensures in
-    let f : g.D.Device.kept d.lower → Submits d.base d.most d.closed m q (record { tag = q.tag; kind = q.kind; first = c.lowered.result; count = q.count }) row
-    = λ k. submits d.base d.most d.closed m q row c.in-Ok.kind c.lowered.result c.if-self.false (g.D.Device.sound d.lower k).size
-    (ap (λ z. form z q (length row)) (sym (c.sectors.ensures k)) ∙ (sym c.examine.ensures ∙ c.in-Ok.is)) c.lowered.ensures in
-    record {
-      keeps = λ k. (e.keeps k.0, subst (Within d.base d.most d.closed) (sym (e.leaves k.0)) ((f k.0).within k.1));
-      answers = λ k. (f k.0).ok c.in-Ok-submit.field-0 (sym c.in-Ok-submit.is ∙ e.answers k.0);
-      leaves = λ k. ap (over d.base d.most d.closed) (e.leaves k.0) ∙ (f k.0).leaves;
-      did = λ k. (record { tag = q.tag; kind = q.kind; first = c.lowered.result; count = q.count }, subst (λ r. g.D.Device.does d.lower (told_submit (record { tag = q.tag; kind = q.kind; first = c.lowered.result; count = q.count }) row c.args.tick r) c.submit.new.self) c.in-Ok-submit.is (e.did k.0));
-    }
+    submits d.base d.most (gated d.lower.shut (g.D.Device.meaning d.lower.lower)) q c.args.bytes.now c.in_ok-kind.kind
+    (ap (λ z. form z q (length c.args.bytes.now)) (sym c.size.ensures) ∙ (sym c.examine.ensures ∙ passed _ c.examine.result c.map_err.result c.in_ok-kind.kind c.map_err.ensures.cases c.in_ok-kind.was))
+    c.match-kind.first (g.D.Device.sound d.lower.lower).size
+    (elim c.match-kind.branch [ in-Read w ↦ search rules | in-Flush w ↦ search rules ])
 
-pub returns-in-Err-submit : goal.returns-in-Err-submit
-returns-in-Err-submit g c =
+pub invariant_of-self : goal.invariant_of-self
+invariant_of-self g c =
     let d = c.args.self.now in
-    let q = c.args.request in
-    let row = c.args.bytes.now in
-    let m = g.D.Device.meaning d.lower in
-    let m' = g.D.Device.meaning c.submit.new.self in
-    let e = c.submit.ensures in
-    let f : g.D.Device.kept d.lower → Submits d.base d.most d.closed m q (record { tag = q.tag; kind = q.kind; first = c.lowered.result; count = q.count }) row
-    = λ k. submits d.base d.most d.closed m q row c.in-Ok.kind c.lowered.result c.if-self.false (g.D.Device.sound d.lower k).size
-    (ap (λ z. form z q (length row)) (sym (c.sectors.ensures k)) ∙ (sym c.examine.ensures ∙ c.in-Ok.is)) c.lowered.ensures in
-    record {
-      keeps = λ k. (e.keeps k.0, subst (Within d.base d.most d.closed) (sym (e.leaves k.0)) ((f k.0).within k.1));
-      answers = λ k.
-          ap Err (c.refused-in-Err-submit.ensures (e.keeps k.0) ∙ refused_same c.in-Err-submit.refusal.cause m m' (height_submitted m m' (record { tag = q.tag; kind = q.kind; first = c.lowered.result; count = q.count }) row (e.leaves k.0)))
-          ∙ (f k.0).err c.in-Err-submit.refusal (sym c.in-Err-submit.is ∙ e.answers k.0);
-      leaves = λ k. ap (over d.base d.most d.closed) (e.leaves k.0) ∙ (f k.0).leaves;
-      did = λ k. tt;
-    }
+    record { within = subst (Within d.base d.most) (sym c.submit.ensures.leaves) ((sent g c).within d.within) }
+
+pub returns-clause-answers : goal.returns-clause-answers
+returns-clause-answers g c =
+    mapped _ c.height-height.result c.submit.result c.map_err-2.result c.map_err-2.ensures.cases (λ f y k. search rules)
+    ∙ (ap₂ at_height c.height-height.ensures c.submit.ensures.answers ∙ (sent g (goal.at.returns-clause-answers g c).After-submit).answers)
+
+pub returns-clause-leaves : goal.returns-clause-leaves
+returns-clause-leaves g c =
+    let d = c.args.self.now in
+    ap (over d.base d.most) c.submit.ensures.leaves ∙ (sent g (goal.at.returns-clause-leaves g c).After-submit).leaves
+
+pub returns-clause-did : goal.returns-clause-did
+returns-clause-did g c =
+    let d = c.args.self.now in
+    acted d.base (λ l. gated l.shut (g.D.Device.meaning l.lower)) (λ l e x. Passed g.D.Device.does l.shut l.lower e x.shut x.lower) d.lower c.submit.new.self c.args.request _ c.args.bytes.now c.args.tick (sent g (goal.at.returns-clause-did g c).After-submit).sent
+    _ c.submit.result c.map_err-2.result c.map_err-2.ensures.cases c.submit.ensures.did

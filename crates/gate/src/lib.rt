@@ -1,0 +1,6 @@
+#![tactic(auto)]
+
+mod as_device;
+mod gate;
+
+pub use gate::{Gate, must_shut};
