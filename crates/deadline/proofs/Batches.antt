@@ -5,7 +5,7 @@ use Rattle.device.specs.declared.interface.Kind.TheVariants.{Read, Write, Flush}
 use Rattle.device.specs.Meaning.{is_read, is_write}
 use Rattle.deadline.specs.Settings.{Settings}
 use Rattle.deadline.specs.Waiting.{Run, ends}
-use Rattle.deadline.specs.Turn.{State, set_up, position, Batch, closed, reading, writing, idle, passes_down, goes_on, begins_with, one_more, opened, after, at_tick, turned}
+use Rattle.deadline.specs.Turn.{State, set_up, position, Batch, closed, reading, writing, passes_down, goes_on, begins_with, one_more, opened, after, at_tick, turned}
 use Rattle.deadline.specs.Events.{Event, following, dispatched}
 use Rattle.deadline.specs.Laws.{Open, NextKind, ByTheRules, AllOf, Rising, ABatch, BatchesAreShortAndRising, FlushesCloseTheBatch}
 use Rattle.deadline.proofs.Reached.{Good, good_turned}
@@ -35,15 +35,6 @@ grows st s q qs (reading n) o p c =
 grows st s q qs (writing n) o p c =
     (one_more_run st.fifo_batch n (length qs) o.1 c.0, (o.0, c.1), (rw o.0 at p, rw o.0 at c.2))
 
-pub busy_going : (r : Run) → goes_on r ≡ idle → ⊥
-busy_going r e = let z : ◌≡◌ {A = ℕ} 0 1 = cc in omega arith
-
-pub busy_beginning : (r : Run) → begins_with r ≡ idle → ⊥
-busy_beginning r e = let z : ◌≡◌ {A = ℕ} 0 1 = cc in omega arith
-
-pub busy_flushing : (t : ℕ) → passes_down t ≡ idle → ⊥
-busy_flushing t e = let z : ◌≡◌ {A = ℕ} 0 1 = cc in omega arith
-
 -- the same by the positions and the batch of a state
 abbrev ContinuesAt : Settings → State → List Run → Type 0
 ContinuesAt st s rs = Continues st.fifo_batch s.read_position s.write_position s.batch rs
@@ -61,7 +52,7 @@ continues st (q ∷ qs) es s g e =
     let d = first_dispatch st es s (goes_on q) (map goes_on qs) g e in
     let t = d.found in
     let h : ByTheRules st (at_tick t d.told) (goes_on q) = subst (ByTheRules st (at_tick t d.told)) d.serves (rules_at st t d.told d.good) in
-    let left = serves_as st t d.told (goes_on q) d.good d.serves (busy_going q) in
+    let left = serves_as st t d.told (goes_on q) d.good d.serves (λ e. cc) in
     let ih = continues st qs d.later (turned st t d.told) (good_turned st t d.told d.good) d.rest in
     continues_alike st s t (q ∷ qs) d.alike
     (grows st t q qs t.batch h.1.open_batch (past_position t d.told q h.1.lowest.past) (subst (λ u. ContinuesAt st u qs) left ih))
@@ -99,7 +90,7 @@ batches st w past es r rs e = begun_with st (at_tick t d.told) r rs w.some_run r
 
     more : ContinuesAt st (after (at_tick t d.told) (begins_with r)) rs
     more =
-        subst (λ u. ContinuesAt st u rs) (serves_as st t d.told (begins_with r) d.good d.serves (busy_beginning r))
+        subst (λ u. ContinuesAt st u rs) (serves_as st t d.told (begins_with r) d.good d.serves (λ e. cc))
         (continues st rs d.later (turned st t d.told) (good_turned st t d.told d.good) d.rest)
 
 pub flushes_close : FlushesCloseTheBatch
@@ -107,7 +98,7 @@ unfolding after
 flushes_close st w past es t r cs e =
     let d = first_dispatch st es (following st set_up past) (passes_down t) (goes_on r ∷ cs) (good_always st past) e in
     let u = turned st d.found d.told in
-    let shut : u.batch ≡ closed = ap (λ v. v.batch) (serves_as st d.found d.told (passes_down t) d.good d.serves (busy_flushing t)) in
+    let shut : u.batch ≡ closed = ap (λ v. v.batch) (serves_as st d.found d.told (passes_down t) d.good d.serves (λ e. cc)) in
     let f = first_dispatch st d.later u (goes_on r) cs (good_turned st d.found d.told d.good) d.rest in
     let h : ByTheRules st (at_tick f.found f.told) (goes_on r) = subst (ByTheRules st (at_tick f.found f.told)) f.serves (rules_at st f.found f.told f.good) in
     subst (λ b. Open st b r.kind) (f.alike.batch ∙ shut) h.1.open_batch

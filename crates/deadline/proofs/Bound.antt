@@ -13,7 +13,7 @@ use Rattle.deadline.proofs.Sound.{newest, SoundFrom}
 use Rattle.deadline.proofs.Progress.{Begun, turns_left, turns_left_bound, Outcome, turn_outcome}
 use Rattle.deadline.specs.Bound.{WaitingIsBounded}
 use Rattle.deadline.proofs.Taking.{taken_keeps, taken_oldest}
-use Rattle.deadline.proofs.Reached.{Good, good_turned, good_submitted, good_following, good_set_up}
+use Rattle.deadline.proofs.Reached.{Good, entry, with_entry, by_submit, good_turned, good_submitted, good_following, good_set_up}
 
 -- ── a ticket's place and tick while others leave and come ──
 
@@ -190,28 +190,14 @@ for_oldest_taken st b n t (y ∷ ys) x h =
 
 submitted_stays : (st : Settings) (t : ℕ) (s : State) (tag : ℕ) (kind : Kind) (first count told : ℕ) → has_tag t s.waiting ≡ true →
     Stayed st t s (submitted st s tag kind first count told)
-unfolding submitted
-submitted_stays st t s tag kind first count told h = go (has_tag tag s.waiting)
+submitted_stays st t s tag kind first count told h =
+    by_submit (Stayed st t s) st s tag kind first count told (record { same_left = refl; tick_same = refl; latest_up = omega arith }) (λ _. more)
   where
-    now : ℕ
-    now = max s.latest told
-
     x : Queued
-    x = record { tag = tag; kind = kind; first = first; count = count; tick = now; head = tag }
+    x = entry s tag kind first count told
 
-    new : State
-    new = record {
-      latest = now;
-      batch = s.batch;
-      read_position = s.read_position;
-      write_position = s.write_position;
-      passed_over = s.passed_over;
-      waiting = taken st s.waiting x;
-    }
-
-    go : (b : Bool) → Stayed st t s (cond b s new)
-    go true = record { same_left = refl; tick_same = refl; latest_up = omega arith }
-    go false =
+    more : Stayed st t s (with_entry st s x)
+    more =
         let p = taken_keeps st t s.waiting x h in
         let q = for_oldest_taken st s.batch s.passed_over t s.waiting x h in
         record { same_left = rw (p.1, q); tick_same = p.0; latest_up = omega arith }

@@ -1,12 +1,12 @@
 -- What is dispatched over a list of events: the first of it, and what that leaves.
-use Rattle.std.proofs.Common.{◌≡◌, ℕ, max, Bool, true, false, cond, ◌⊎◌, List, [], ◌∷◌, sym, refl, ap, ◌∙◌, subst, inl, inr, arith}
+use Rattle.std.proofs.Common.{◌≡◌, ℕ, ◌⊎◌, List, [], ◌∷◌, sym, refl, ap, ◌∙◌, subst, inl, inr}
 use Rattle.device.specs.declared.interface.Kind.{Kind}
 use Rattle.deadline.specs.Settings.{Settings}
-use Rattle.deadline.specs.Waiting.{Queued, has_tag}
-use Rattle.deadline.specs.Turn.{State, Choice, idle, passes_down, goes_on, begins_with, choice, chosen, after, at_tick, taken, turned_with, turned, submitted}
+use Rattle.deadline.specs.Waiting.{Queued}
+use Rattle.deadline.specs.Turn.{State, Choice, idle, passes_down, goes_on, begins_with, choice, chosen, after, at_tick, turned_with, turned, submitted}
 use Rattle.deadline.specs.Events.{Event, submit, turn, collect, dispatched, noted}
 use Rattle.deadline.specs.Laws.{ByTheRules}
-use Rattle.deadline.proofs.Reached.{Good, good_turned, good_submitted}
+use Rattle.deadline.proofs.Reached.{Good, by_submit, good_turned, good_submitted}
 use Rattle.deadline.proofs.RuleFacts.{by_the_rules}
 use Rattle.deadline.proofs.Overtaking.{turned_is}
 
@@ -24,25 +24,8 @@ alike_then : (s t u : State) → Alike s t → Alike t u → Alike s u
 alike_then s t u a b = record { batch = b.batch ∙ a.batch; reads = b.reads ∙ a.reads; writes = b.writes ∙ a.writes; passed = b.passed ∙ a.passed }
 
 pub submitted_alike : (st : Settings) (s : State) (tag : ℕ) (kind : Kind) (first count told : ℕ) → Alike s (submitted st s tag kind first count told)
-unfolding submitted
-submitted_alike st s tag kind first count told = go (has_tag tag s.waiting)
-  where
-    x : Queued
-    x = record { tag = tag; kind = kind; first = first; count = count; tick = max s.latest told; head = tag }
-
-    new : State
-    new = record {
-      latest = max s.latest told;
-      batch = s.batch;
-      read_position = s.read_position;
-      write_position = s.write_position;
-      passed_over = s.passed_over;
-      waiting = taken st s.waiting x;
-    }
-
-    go : (b : Bool) → Alike s (cond b s new)
-    go true = alike_self s
-    go false = record { batch = refl; reads = refl; writes = refl; passed = refl }
+submitted_alike st s tag kind first count told =
+    by_submit (Alike s) st s tag kind first count told (alike_self s) (λ _. record { batch = refl; reads = refl; writes = refl; passed = refl })
 
 -- a turn that finds nothing waiting leaves the state as it was; any other leaves what its choice says
 pub turned_as : (st : Settings) (s : State) (told : ℕ) → ((s.waiting ≡ []) × (turned st s told ≡ s)) ⊎ (turned st s told ≡ after (at_tick s told) (chosen st s told))
@@ -105,10 +88,7 @@ after_alike st s t c cs a f = record {
 }
 
 pub first_dispatch : (st : Settings) (es : List Event) (s : State) (c : Choice) (cs : List Choice) → Good s → dispatched st s es ≡ c ∷ cs → FirstDispatch st s c cs
-first_dispatch st [] s c cs g e = absurd (no_cons e)
-  where
-    no_cons : [] ≡ c ∷ cs → ⊥
-    no_cons h = let z : ◌≡◌ {A = ℕ} 0 1 = cc in omega arith
+first_dispatch st [] s c cs g e = cc
 first_dispatch st (submit tag kind first count told ∷ es) s c cs g e =
     after_alike st s (submitted st s tag kind first count told) c cs (submitted_alike st s tag kind first count told)
     (first_dispatch st es (submitted st s tag kind first count told) c cs (good_submitted st s tag kind first count told g) e)
@@ -119,13 +99,7 @@ first_dispatch st (turn told ∷ es) s c cs g e = go (chosen st s told) refl e (
     rest = dispatched st (turned st s told) es
 
     here : (d : Choice) → chosen st s told ≡ d → d ∷ rest ≡ c ∷ cs → FirstDispatch st s c cs
-    here d k h = record { found = s; told = told; later = es; good = g; alike = alike_self s; serves = k ∙ first_of_two d h; rest = rest_of_two d h }
-      where
-        first_of_two : (d : Choice) → d ∷ rest ≡ c ∷ cs → d ≡ c
-        first_of_two d h = cc
-
-        rest_of_two : (d : Choice) → d ∷ rest ≡ c ∷ cs → rest ≡ cs
-        rest_of_two d h = cc
+    here d k h = record { found = s; told = told; later = es; good = g; alike = alike_self s; serves = cc; rest = cc }
 
     go : (d : Choice) → chosen st s told ≡ d → noted d rest ≡ c ∷ cs → (rest ≡ c ∷ cs → FirstDispatch st (turned st s told) c cs) → FirstDispatch st s c cs
     go idle k h ih = after_alike st s (turned st s told) c cs (idle_alike st s told g k) (ih h)

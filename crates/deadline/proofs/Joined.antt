@@ -1,5 +1,6 @@
 -- The run that a new ticket joins, and what is kept of the waiting tickets when it is taken.
 use Rattle.std.proofs.Common.{◌≡◌, ℕ, ◌+◌, ◌≤◌, Bool, true, false, cond, not, ◌&&◌, eqb, leb, ◌⊎◌, List, [], ◌∷◌, ◌++◌, sym, refl, ◌∙◌, subst, inl, inr, append_assoc, arith}
+pub use Rattle.std.specs.List.{AllByRecursion as Each}
 use Rattle.std.proofs.lemmas.Bool.{both_ways, eqb-true, eq-eqb, or_from, or_left, or_right, or_parts, and_parts, and_from, and_left, and_right, and_cases, not-true, not-false, not_from_true, not_from_false, cases_Bool}
 use Rattle.device.specs.Meaning.{is_flush, longest_run}
 use Rattle.deadline.specs.Settings.{Settings}
@@ -12,10 +13,6 @@ use Rattle.deadline.proofs.Members.{in_back}
 use Rattle.deadline.proofs.Sound.{newest, heads, unsplit, strange, Fine, SoundFrom, sound_front, sound_back, fresh_heads, newest_onto}
 
 -- ── runs and their heads ──
-
-abbrev pub Each : (Run → Type 0) → List Run → Type 0
-Each P [] = Unit {0}
-Each P (r ∷ rs) = P r × Each P rs
 
 -- what holds of each run of a list, and with the test of each that is taken
 pub each_those : (P Q : Run → Type 0) (p : Run → Bool) → ((r : Run) → P r → p r ≡ true → Q r) → (rs : List Run) → Each P rs → Each Q (those p rs)

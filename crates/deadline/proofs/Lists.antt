@@ -1,6 +1,8 @@
 -- Laws of `any` and `those`, and what a turn and a submit keep of the waiting list.
-use Rattle.std.proofs.Common.{◌≡◌, ℕ, Bool, true, false, cond, not, eqb, ◌⊎◌, List, [], ◌∷◌, ◌++◌, sym, refl, inl, inr}
+use Rattle.std.proofs.Common.{◌≡◌, ℕ, Bool, true, false, cond, not, eqb, ◌⊎◌, List, [], ◌∷◌, ◌++◌, sym, refl, ◌∙◌, inl, inr}
 use Rattle.std.proofs.lemmas.Bool.{true≢false, both_ways, or_cases, or_parts, or_from, or_left, or_right, not_from_false, cases_Bool}
+use Rattle.std.proofs.lemmas.List.Folds.{list_any-append}
+use Rattle.std.proofs.lemmas.Map.Views.{any-filter_same}
 use Rattle.deadline.specs.Waiting.{Queued, is_in, any}
 use Rattle.deadline.specs.Turn.{without}
 use Rattle.deadline.specs.Laws.{In}
@@ -26,18 +28,7 @@ any_within p r ws h = elim (cases_Bool (any p ws)) [
 -- what is outside the run stays
 pub any_stays : (p : Queued → Bool) (r : ℕ) (ws : List Queued) → ((x : Queued) → p x ≡ true → eqb x.head r ≡ false) →
     any p ws ≡ true → any p (without r ws) ≡ true
-any_stays p r [] out h = h
-any_stays p r (x ∷ xs) out h = go (or_cases (p x) (any p xs) h) (any_stays p r xs out)
-  where
-    kept : (b : Bool) → eqb x.head r ≡ b → (p x ≡ true) ⊎ (any p xs ≡ true) → (any p xs ≡ true → any p (without r xs) ≡ true) →
-        any p (cond (not b) (x ∷ without r xs) (without r xs)) ≡ true
-    kept true e (inl here) ih = absurd (both_ways _ (out x here) e)
-    kept true e (inr there) ih = ih there
-    kept false e (inl here) ih = or_left _ _ here
-    kept false e (inr there) ih = or_right _ _ (ih there)
-
-    go : (p x ≡ true) ⊎ (any p xs ≡ true) → (any p xs ≡ true → any p (without r xs) ≡ true) → any p (without r (x ∷ xs)) ≡ true
-    go s ih = kept (eqb x.head r) refl s ih
+any_stays p r ws out h = any-filter_same p (λ x. not (is_in r x)) true (λ x t. not_from_false (is_in r x) (out x t)) ws ∙ h
 
 -- ── a list put on another in reverse: the tickets older than the next one, youngest first ──
 
@@ -62,11 +53,7 @@ any_onto p (x ∷ xs) o h = elim (or_cases (p x) (any p xs) h) [
 ]
 
 pub any_append : (p : Queued → Bool) (ws : List Queued) (x : Queued) → any p ws ≡ true → any p (ws ++ (x ∷ [])) ≡ true
-any_append p [] x h = absurd (true≢false (sym h))
-any_append p (y ∷ ys) x h = elim (or_cases (p y) (any p ys) h) [
-  | inl here ↦ or_left _ _ here
-  | inr there ↦ or_right _ _ (any_append p ys x there)
-]
+any_append p ws x h = list_any-append p ws (x ∷ []) ∙ or_left (any p ws) (any p (x ∷ [])) h
 
 pub any_mono : (p q : Queued → Bool) → ((x : Queued) → p x ≡ true → q x ≡ true) → (ws : List Queued) → any p ws ≡ true → any q ws ≡ true
 any_mono p q f [] h = h
@@ -82,10 +69,7 @@ any_fewer p q f ws h = elim (cases_Bool (any p ws)) [
 ]
 
 pub any_joined : (p : Queued → Bool) (ws vs : List Queued) → any p ws ≡ false → any p vs ≡ false → any p (ws ++ vs) ≡ false
-any_joined p [] vs h k = k
-any_joined p (x ∷ xs) vs h k =
-    let a = or_parts (p x) (any p xs) h in
-    or_from (p x) (any p (xs ++ vs)) a.0 (any_joined p xs vs a.1 k)
+any_joined p ws vs h k = list_any-append p ws vs ∙ or_from (any p ws) (any p vs) h k
 
 -- ── a ticket of a list ──
 

@@ -1,6 +1,6 @@
 -- One turn, where the oldest waiting ticket is expired: its run is served, or its turns left grow fewer.
-use Rattle.std.proofs.Common.{◌≡◌, ℕ, suc, ◌+◌, ◌-◌, ◌*◌, ◌≤◌, Bool, true, false, cond, not, ◌&&◌, eqb, ltb, leb, ◌⊎◌, List, [], ◌∷◌, Some, None, Option, sym, refl, ap, ◌∙◌, subst, inl, inr, mul-le-mul_right, arith}
-use Rattle.std.proofs.lemmas.Bool.{true≢false, eq-eqb, le-leb, lt-leb, leb-false, ltb-true, and_parts, not-true}
+use Rattle.std.proofs.Common.{◌≡◌, ℕ, suc, ◌+◌, ◌-◌, ◌*◌, ◌≤◌, Bool, true, false, cond, not, ◌&&◌, eqb, ltb, leb, ◌⊎◌, List, [], ◌∷◌, IfSome, Some, None, Option, sym, refl, ap, ◌∙◌, subst, inl, inr, mul-le-mul_right, arith}
+use Rattle.std.proofs.lemmas.Bool.{true≢false, eq-eqb, le-leb, lt-leb, leb-false, ltb-true, and_parts, not-true, not-false}
 use Rattle.device.specs.declared.interface.Kind.{Kind}
 use Rattle.device.specs.declared.interface.Kind.TheVariants.{Read, Write, Flush}
 use Rattle.device.specs.Meaning.{is_flush}
@@ -32,23 +32,19 @@ each_free : (k : Kind) (ws : List Queued) → Each (Of k) (free_runs k ws)
 unfolding free_runs
 each_free k ws = each_of k (λ r. free ws r.name) (runs ws)
 
-abbrev Holds : (Run → Type 0) → Option Run → Type 0
-Holds P None = Unit {0}
-Holds P (Some r) = P r
-
-holds_lower : (P : Run → Type 0) (r : Run) (o : Option Run) → P r → Holds P o → Holds P (lower r o)
+holds_lower : (P : Run → Type 0) (r : Run) (o : Option Run) → P r → IfSome o P → IfSome (lower r o) P
 holds_lower P r None h k = h
 holds_lower P r (Some q) h k = elim (leb r.begins q.begins) as (λ b. P (cond b r q)) [ true ↦ h | false ↦ k ]
 
-holds_lowest : (P : Run → Type 0) (p : ℕ) (rs : List Run) → Each P rs → Holds P (lowest p rs)
+holds_lowest : (P : Run → Type 0) (p : ℕ) (rs : List Run) → Each P rs → IfSome (lowest p rs) P
 holds_lowest P p [] e = tt
 holds_lowest P p (r ∷ rs) e =
-    elim (leb p r.begins) as (λ b. Holds P (cond b (lower r (lowest p rs)) (lowest p rs))) [
+    elim (leb p r.begins) as (λ b. IfSome (cond b (lower r (lowest p rs)) (lowest p rs)) P) [
       | true ↦ holds_lower P r (lowest p rs) e.0 (holds_lowest P p rs e.1)
       | false ↦ holds_lowest P p rs e.1
     ]
 
-holds_or : (P : Run → Type 0) (r : Run) (o : Option Run) → P r → Holds P o → P (or_oldest r o)
+holds_or : (P : Run → Type 0) (r : Run) (o : Option Run) → P r → IfSome o P → P (or_oldest r o)
 holds_or P r None h k = h
 holds_or P r (Some q) h k = k
 
@@ -206,18 +202,6 @@ begins_read st w s x r ex er f t = record {
 abbrev Begins : Settings → State → Queued → Option Run → Type 0
 Begins st s x o = (r : Run) × (o ≡ Some r) × Outcome st s x (after s (begins_with r))
 
-unless : (a y : Bool) → a ≡ true → (a && not y) ≡ false → y ≡ true
-unless true true h k = refl
-unless true false h k = absurd (true≢false k)
-unless false true h k = absurd (true≢false (sym h))
-unless false false h k = absurd (true≢false (sym h))
-
-and_other : (a y : Bool) → a ≡ true → (a && y) ≡ false → y ≡ false
-and_other true true h k = absurd (true≢false k)
-and_other true false h k = refl
-and_other false true h k = absurd (true≢false (sym h))
-and_other false false h k = refl
-
 -- from the free reads and writes
 begins_for_read : (st : Settings) → WithinLimits st → (s : State) (x : Queued) (ws : List Queued) → x.kind ≡ Read → expired st s (run_of ws x) ≡ true →
     (rs : List Run) → free_runs Read s.waiting ≡ run_of ws x ∷ rs → Begins st s x (new_batch st s)
@@ -237,7 +221,7 @@ begins_for_read st w s x ws ex late rs e = go (reads_next st.writes_starved s.pa
         Begins st s x (cond b (first_of st s s.read_position reads) (first_of st s s.write_position writes))
     go true t = (run_of ws x, first_expired st s s.read_position (run_of ws x) rs reads e late, begins_own st s ws x)
     go false t =
-        let both : (some_of writes && leb st.writes_starved s.passed_over) ≡ true = unless (some_of reads) (some_of writes && leb st.writes_starved s.passed_over) some_read t in
+        let both : (some_of writes && leb st.writes_starved s.passed_over) ≡ true = not-false (some_of writes && leb st.writes_starved s.passed_over) (rw some_read at t) in
         let f = first_holds (Of Write) st s s.write_position writes (each_free Write s.waiting) (and_parts (some_of writes) (leb st.writes_starved s.passed_over) both).0 in
         (f.0, f.1, begins_write st w s x f.0 ex (same_is f.0.kind Write f.2) (and_parts (some_of writes) (leb st.writes_starved s.passed_over) both).1)
 
@@ -260,7 +244,7 @@ begins_for_write st w s x ws ex late rs e = go (reads_next st.writes_starved s.p
     go false t = (run_of ws x, first_expired st s s.write_position (run_of ws x) rs writes e late, begins_own st s ws x)
     go true t =
         let parts = and_parts (some_of reads) (not (some_of writes && leb st.writes_starved s.passed_over)) t in
-        let few = and_other (some_of writes) (leb st.writes_starved s.passed_over) some_write (not-true (some_of writes && leb st.writes_starved s.passed_over) parts.1) in
+        let few = rw some_write at (not-true (some_of writes && leb st.writes_starved s.passed_over) parts.1) in
         let f = first_holds (Of Read) st s s.read_position reads (each_free Read s.waiting) parts.0 in
         (f.0, f.1, begins_read st w s x f.0 ex (same_is f.0.kind Read f.2) some_write few)
 

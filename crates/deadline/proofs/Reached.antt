@@ -42,31 +42,41 @@ good_turned st s told g = go s.waiting
     go [] = g
     go (x ∷ xs) = good_after (at_tick s told) (good_at_tick s told g) (choice st (at_tick s told) (x ∷ xs))
 
-pub good_submitted : (st : Settings) (s : State) (tag : ℕ) (kind : Kind) (first count told : ℕ) → Good s → Good (submitted st s tag kind first count told)
+-- what a submit lets wait
+abbrev pub entry : State → (tag : ℕ) → Kind → (first count told : ℕ) → Queued
+entry s tag kind first count told = record { tag = tag; kind = kind; first = first; count = count; tick = max s.latest told; head = tag }
+
+-- the state that lets it wait
+abbrev pub with_entry : Settings → State → Queued → State
+with_entry st s x = record {
+  latest = x.tick;
+  batch = s.batch;
+  read_position = s.read_position;
+  write_position = s.write_position;
+  passed_over = s.passed_over;
+  waiting = taken st s.waiting x;
+}
+
+-- a submit leaves the state as it was, or one that lets its request wait
+pub by_submit : (P : State → Type 0) (st : Settings) (s : State) (tag : ℕ) (kind : Kind) (first count told : ℕ) →
+    P s → (has_tag tag s.waiting ≡ false → P (with_entry st s (entry s tag kind first count told))) → P (submitted st s tag kind first count told)
 unfolding submitted
-good_submitted st s tag kind first count told g = go (has_tag tag s.waiting) refl
+by_submit P st s tag kind first count told same more = go (has_tag tag s.waiting) refl
   where
-    now : ℕ
-    now = max s.latest told
+    go : (b : Bool) → has_tag tag s.waiting ≡ b → P (cond b s (with_entry st s (entry s tag kind first count told)))
+    go true e = same
+    go false e = more e
 
+pub good_submitted : (st : Settings) (s : State) (tag : ℕ) (kind : Kind) (first count told : ℕ) → Good s → Good (submitted st s tag kind first count told)
+good_submitted st s tag kind first count told g = by_submit Good st s tag kind first count told g more
+  where
     x : Queued
-    x = record { tag = tag; kind = kind; first = first; count = count; tick = now; head = tag }
+    x = entry s tag kind first count told
 
-    new : State
-    new = record {
-      latest = now;
-      batch = s.batch;
-      read_position = s.read_position;
-      write_position = s.write_position;
-      passed_over = s.passed_over;
-      waiting = taken st s.waiting x;
-    }
-
-    go : (b : Bool) → has_tag tag s.waiting ≡ b → Good (cond b s new)
-    go true e = g
-    go false e = record {
+    more : has_tag tag s.waiting ≡ false → Good (with_entry st s x)
+    more e = record {
       sound = taken_sound st s.waiting x g.sound e (omega (arith, g.past));
-      past = taken_newest st s.waiting x now (omega (arith, g.past)) (omega arith);
+      past = taken_newest st s.waiting x x.tick (omega (arith, g.past)) (omega arith);
       begun = g.begun;
     }
 

@@ -1,6 +1,7 @@
 -- A turn's choice is the one that the rules name.
 use Rattle.std.proofs.Common.{◌≡◌, ℕ, ◌<◌, ◌≤◌, Bool, true, false, cond, not, ◌&&◌, ltb, leb, ◌⊎◌, List, [], ◌∷◌, Some, None, Option, sym, refl, ap, ◌∙◌, subst, inl, inr, arith}
-use Rattle.std.proofs.lemmas.Bool.{true≢false, both_ways, leb-true, leb-false, ltb-true, lt-ltb, and_parts, and_from, and_cases, not-true, cases_Bool}
+use Rattle.std.proofs.lemmas.Bool.{true≢false, both_ways, leb-true, leb-false, ltb-true, lt-ltb, and_parts, and_from, and_cases, not-true, not-false, cases_Bool}
+use Rattle.std.proofs.lemmas.Option.{none-some, same_Some}
 use Rattle.device.specs.declared.interface.Kind.{Kind}
 use Rattle.device.specs.declared.interface.Kind.TheVariants.{Read, Write, Flush}
 use Rattle.device.specs.Meaning.{is_flush}
@@ -103,14 +104,8 @@ in_lowest p rs r l = subst (In r) (sym l.stands) (in_back r l.older (r ∷ l.you
 
 -- ── the first run of a batch ──
 
-unsome : (q r : Run) → Some q ≡ Some r → r ≡ q
-unsome q r e = cc
-
-no_none : (r : Run) → ◌≡◌ {A = Option Run} None (Some r) → ⊥
-no_none r e = let z : ◌≡◌ {A = ℕ} 0 1 = cc in omega arith
-
 pub first_is : (st : Settings) (s : State) (p : ℕ) (rs : List Run) (r : Run) → first_of st s p rs ≡ Some r → First st s p rs r
-first_is st s p [] r e = absurd (no_none r e)
+first_is st s p [] r e = absurd (none-some r e)
 first_is st s p (q ∷ qs) r e = record {
   oldest = q;
   others = qs;
@@ -120,7 +115,7 @@ first_is st s p (q ∷ qs) r e = record {
 }
   where
     is : r ≡ cond (expired st s q) q (or_oldest q (lowest p (q ∷ qs)))
-    is = unsome (cond (expired st s q) q (or_oldest q (lowest p (q ∷ qs)))) r e
+    is = sym (same_Some (cond (expired st s q) q (or_oldest q (lowest p (q ∷ qs)))) r e)
 
     order : (o : Option Run) → lowest p (q ∷ qs) ≡ o → r ≡ or_oldest q o → Lowest p (q ∷ qs) r ⊎ (NonePast p (q ∷ qs) × (r ≡ q))
     order None n h = inr (none_past p (q ∷ qs) n, h)
@@ -147,20 +142,20 @@ module _ (st : Settings) (s : State) where
       let e = kind_of_candidate k r (in_lowest (position k s) (free_runs k s.waiting) r l) in
       (e, subst (λ j. Lowest (position j s) (free_runs j s.waiting) r) (sym e) l)
 
-  next_some : (b : Batch) (r : Run) → next_of st s b ≡ Some r → Open st b r.kind × Lowest (position r.kind s) (free_runs r.kind s.waiting) r
-  next_some closed r e = absurd (no_none r e)
+  pub next_some : (b : Batch) (r : Run) → next_of st s b ≡ Some r → Open st b r.kind × Lowest (position r.kind s) (free_runs r.kind s.waiting) r
+  next_some closed r e = absurd (none-some r e)
   next_some (reading n) r e = go (ltb n st.fifo_batch) refl e
     where
       go : (b : Bool) → ltb n st.fifo_batch ≡ b → cond b (lowest s.read_position (free_runs Read s.waiting)) None ≡ Some r →
           ((r.kind ≡ Read) × (n < st.fifo_batch)) × Lowest (position r.kind s) (free_runs r.kind s.waiting) r
       go true t h = let a = at_kind Read r (lowest_is s.read_position (free_runs Read s.waiting) r h) in ((a.0, ltb-true n st.fifo_batch t), a.1)
-      go false t h = absurd (no_none r h)
+      go false t h = absurd (none-some r h)
   next_some (writing n) r e = go (ltb n st.fifo_batch) refl e
     where
       go : (b : Bool) → ltb n st.fifo_batch ≡ b → cond b (lowest s.write_position (free_runs Write s.waiting)) None ≡ Some r →
           ((r.kind ≡ Write) × (n < st.fifo_batch)) × Lowest (position r.kind s) (free_runs r.kind s.waiting) r
       go true t h = let a = at_kind Write r (lowest_is s.write_position (free_runs Write s.waiting) r h) in ((a.0, ltb-true n st.fifo_batch t), a.1)
-      go false t h = absurd (no_none r h)
+      go false t h = absurd (none-some r h)
 
   next_none : (b : Batch) → next_of st s b ≡ None → (k : Kind) → Open st b k → NonePast (position k s) (free_runs k s.waiting)
   next_none closed e k o = absurd o
@@ -192,12 +187,8 @@ module _ (st : Settings) (s : State) where
       some_write (inr w) t = w
       some_write (inl r) t = elim (and_cases (some_of reads) (not (some_of writes && starved)) t) [
         | inl n ↦ absurd (both_ways (some_of reads) n r)
-        | inr n ↦ (and_parts (some_of writes) starved (unnot (some_of writes && starved) n)).0
+        | inr n ↦ (and_parts (some_of writes) starved (not-false (some_of writes && starved) n)).0
       ]
-        where
-          unnot : (b : Bool) → not b ≡ false → b ≡ true
-          unnot true e = refl
-          unnot false e = absurd (true≢false e)
 
       go : (b : Bool) → reads_next st.writes_starved s.passed_over reads writes ≡ b →
           (r : Run) × (cond b (first_of st s s.read_position reads) (first_of st s s.write_position writes) ≡ Some r)
@@ -212,25 +203,18 @@ module _ (st : Settings) (s : State) where
       let e = kind_of_candidate k r (in_first st s (position k s) (free_runs k s.waiting) r f) in
       (subst (NextKind st s) (sym e) n, subst (λ j. First st s (position j s) (free_runs j s.waiting) r) (sym e) f)
 
-  new_some : (r : Run) → new_batch st s ≡ Some r → Starts r
+  pub new_some : (r : Run) → new_batch st s ≡ Some r → Starts r
   unfolding new_batch reads writes starved
   new_some r e = go (reads_next st.writes_starved s.passed_over reads writes) refl e
     where
       few : (some_of reads && not (some_of writes && starved)) ≡ true → some_of writes ≡ true → s.passed_over < st.writes_starved
-      few t w = leb-false st.writes_starved s.passed_over (other (some_of writes) starved w (not-true (some_of writes && starved) (and_parts (some_of reads) (not (some_of writes && starved)) t).1))
-        where
-          other : (a b : Bool) → a ≡ true → (a && b) ≡ false → b ≡ false
-          other a b h k = elim (and_cases a b k) [ inl n ↦ absurd (both_ways a n h) | inr n ↦ n ]
+      few t w = leb-false st.writes_starved s.passed_over (rw w at (not-true (some_of writes && starved) (and_parts (some_of reads) (not (some_of writes && starved)) t).1))
 
       many : (some_of reads && not (some_of writes && starved)) ≡ false → some_of reads ≡ true → st.writes_starved ≤ s.passed_over
       many t r' = elim (and_cases (some_of reads) (not (some_of writes && starved)) t) [
         | inl n ↦ absurd (both_ways (some_of reads) n r')
-        | inr n ↦ leb-true st.writes_starved s.passed_over (and_parts (some_of writes) starved (unnot (some_of writes && starved) n)).1
+        | inr n ↦ leb-true st.writes_starved s.passed_over (and_parts (some_of writes) starved (not-false (some_of writes && starved) n)).1
       ]
-        where
-          unnot : (b : Bool) → not b ≡ false → b ≡ true
-          unnot true h = refl
-          unnot false h = absurd (true≢false h)
 
       go : (b : Bool) → reads_next st.writes_starved s.passed_over reads writes ≡ b →
           cond b (first_of st s s.read_position reads) (first_of st s s.write_position writes) ≡ Some r → Starts r
@@ -238,9 +222,6 @@ module _ (st : Settings) (s : State) where
       go false t h = of_kind Write r (many t) (first_is st s s.write_position writes r h)
 
 -- ── a turn ──
-
-some_first : (k : Kind) (ws : List Queued) (r : Run) (rs : List Run) → free_runs k ws ≡ r ∷ rs → some_of (free_runs k ws) ≡ true
-some_first k ws r rs e = ap some_of e
 
 pub by_the_rules : (st : Settings) (s : State) → SoundFrom [] s.waiting → ByTheRules st s (choice st s s.waiting)
 unfolding choice
@@ -267,10 +248,10 @@ by_the_rules st s sound = go s.waiting refl
     at_oldest x xs e Flush h = (x, xs, e, ap is_flush h, refl)
     at_oldest x xs e Read h =
         let f = oldest_free_run Read x xs (rw e at sound) (ap is_flush h) (ap (λ k. same k Read) h) in
-        serves (no_flush x xs e (ap is_flush h)) (inl (some_first Read s.waiting _ f.0 (ap (free_runs Read) e ∙ f.1)))
+        serves (no_flush x xs e (ap is_flush h)) (inl (ap some_of (ap (free_runs Read) e ∙ f.1)))
     at_oldest x xs e Write h =
         let f = oldest_free_run Write x xs (rw e at sound) (ap is_flush h) (ap (λ k. same k Write) h) in
-        serves (no_flush x xs e (ap is_flush h)) (inr (some_first Write s.waiting _ f.0 (ap (free_runs Write) e ∙ f.1)))
+        serves (no_flush x xs e (ap is_flush h)) (inr (ap some_of (ap (free_runs Write) e ∙ f.1)))
 
     go : (ws : List Queued) → s.waiting ≡ ws → ByTheRules st s (choice st s ws)
     go [] e = e

@@ -12,7 +12,6 @@ use Rattle.deadline.specs.Laws.{NextKind, ByTheRules, WritesAreNotStarved, Write
 use Rattle.deadline.proofs.Reached.{Good, good_turned, good_submitted, good_set_up}
 use Rattle.deadline.proofs.Overtaking.{good_always}
 use Rattle.deadline.proofs.Dispatches.{submitted_alike, idle_alike, serves_as, rules_at}
-use Rattle.deadline.proofs.Batches.{busy_going, busy_beginning, busy_flushing}
 
 -- the count after a turn, by what it serves
 abbrev counted : Choice → (free_write : Bool) → ℕ → ℕ
@@ -27,9 +26,9 @@ turn_counts st s told g = go (chosen st s told) refl
   where
     go : (c : Choice) → chosen st s told ≡ c → (turned st s told).passed_over ≡ counted c (some_of (free_runs Write s.waiting)) s.passed_over
     go idle e = (idle_alike st s told g e).passed
-    go (passes_down t) e = ap (λ u. u.passed_over) (serves_as st s told (passes_down t) g e (busy_flushing t))
-    go (goes_on r) e = ap (λ u. u.passed_over) (serves_as st s told (goes_on r) g e (busy_going r))
-    go (begins_with r) e = ap (λ u. u.passed_over) (serves_as st s told (begins_with r) g e (busy_beginning r))
+    go (passes_down t) e = ap (λ u. u.passed_over) (serves_as st s told (passes_down t) g e (λ e. cc))
+    go (goes_on r) e = ap (λ u. u.passed_over) (serves_as st s told (goes_on r) g e (λ e. cc))
+    go (begins_with r) e = ap (λ u. u.passed_over) (serves_as st s told (begins_with r) g e (λ e. cc))
 
 pub resets : WriteBatchesResetTheCount
 resets st w past told h = turn_counts st s told (good_always st past) ∙ go (chosen st s told) h

@@ -1,20 +1,12 @@
 -- The waiting tickets: which of them conflict, which runs they make up, and which runs are free.
-use Rattle.std.specs.Prelude.{ℕ, ◌+◌, min, Bool, true, false, cond, not, ◌&&◌, ◌||◌, eqb, List, [], ◌∷◌, ◌==◌, nat_lt}
+use Rattle.std.specs.Prelude.{ℕ, ◌+◌, min, Bool, true, cond, not, ◌&&◌, ◌||◌, eqb, List, [], ◌∷◌, ◌==◌, nat_lt}
 use Rattle.device.specs.declared.interface.Kind.{Kind}
 use Rattle.device.specs.declared.interface.Kind.TheVariants.{Read, Write, Flush}
 use Rattle.device.specs.Meaning.{is_read, is_write, is_flush}
+-- whether a test takes any of a list, and those that it takes
+pub use Rattle.std.specs.List.{list_any as any, filter as those}
 pub use Rattle.deadline.specs.declared.dispatch.Queued.{Queued}
 pub use Rattle.deadline.specs.declared.dispatch.Run.{Run}
-
--- words for lists
-
-abbrev pub any {ℓ} : {A : Type ℓ} → (A → Bool) → List A → Bool
-any p [] = false
-any p (x ∷ xs) = p x || any p xs
-
-abbrev pub those {ℓ} : {A : Type ℓ} → (A → Bool) → List A → List A
-those p [] = []
-those p (x ∷ xs) = let rest = those p xs in cond (p x) (x ∷ rest) rest
 
 abbrev pub same : Kind → Kind → Bool
 same Read k = is_read k

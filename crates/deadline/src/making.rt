@@ -1,6 +1,6 @@
 // Making settings.
 ghost use Rattle.std.specs.Prelude.{◌≡◌, ℕ, cond};
-ghost use Rattle.deadline.specs.Settings.{from_1_to, in_limits, settings_from, settings_of, made_from, cause_number, usual};
+ghost use Rattle.deadline.specs.Settings.{settings_from, settings_of, made_from, cause_number, usual};
 
 use crate::settings::{Settings, SettingsCause};
 
@@ -13,36 +13,11 @@ const MOST_STARVED: u32 = 16;
 /// The most runs of a batch.
 const MOST_BATCH: u32 = 64;
 
-/// Whether a number is 1 to `most`.
-fn is_from_1_to(most: u32, n: u32) -> bool
-    ensures { result ≡ from_1_to most n }
-{
-    1 <= n && n <= most
-}
+impl From<SettingsCause> for u8 {
+    ghost from_gives = { λ cause n. n ≡ cause_number cause };
 
-/// Whether each of the five numbers is within its limits.
-fn are_in_limits(
-    read_expire: u32,
-    write_expire: u32,
-    writes_starved: u32,
-    fifo_batch: u32,
-    front_merges: u32,
-) -> bool
-    ensures { result ≡ in_limits read_expire write_expire writes_starved fifo_batch front_merges }
-{
-    is_from_1_to(MOST_TICKS, read_expire)
-        && is_from_1_to(MOST_TICKS, write_expire)
-        && is_from_1_to(MOST_STARVED, writes_starved)
-        && is_from_1_to(MOST_BATCH, fifo_batch)
-        && front_merges <= 1
-}
-
-impl SettingsCause {
-    /// The number of the cause.
-    pub fn number(self) -> u8
-        ensures { result ≡ cause_number self }
-    {
-        match self {
+    fn from(cause: SettingsCause) -> u8 {
+        match cause {
             SettingsCause::BeyondLimits => 10,
         }
     }
@@ -51,6 +26,7 @@ impl SettingsCause {
 impl Settings {
     /// Settings of these five numbers, or none where one is beyond its limits: 1 to 60,000 ticks for each period, 1 to 16 read
     /// batches, 1 to 64 runs, and 0 or 1 for front merges.
+    // Front merges are a number, not a `bool`: a rule of the project is that every number is taken, and one above 1 refused by 10.
     pub fn new(
         read_expire: u32,
         write_expire: u32,
@@ -60,13 +36,12 @@ impl Settings {
     ) -> Result<Settings, SettingsCause>
         ensures { made_from result ≡ settings_from read_expire write_expire writes_starved fifo_batch front_merges }
     {
-        if !are_in_limits(
-            read_expire,
-            write_expire,
-            writes_starved,
-            fifo_batch,
-            front_merges,
-        ) {
+        let in_limits = (1..=MOST_TICKS).contains(&read_expire)
+            && (1..=MOST_TICKS).contains(&write_expire)
+            && (1..=MOST_STARVED).contains(&writes_starved)
+            && (1..=MOST_BATCH).contains(&fifo_batch)
+            && front_merges <= 1;
+        if !in_limits {
             return Err(SettingsCause::BeyondLimits);
         }
         Ok(Settings {

@@ -2,7 +2,7 @@
 ghost use Rattle.std.specs.Prelude.{◌≤◌};
 
 /// Settings within their limits: the struct cannot hold others.
-#[derive(Clone, Copy)]
+#[derive(Clone, Copy, PartialEq, Eq, Debug)]
 pub struct Settings {
     /// The ticks after which a waiting read is expired.
     pub read_expire: u32,
@@ -20,7 +20,7 @@ pub struct Settings {
     ghost batches: { (1 ≤ fifo_batch) × (fifo_batch ≤ 64) },
 }
 
-/// Why settings are not made. `number` has its one number.
+/// Why settings are not made. `u8::from` gives its one number.
 #[derive(Clone, Copy, PartialEq, Eq, Debug)]
 pub enum SettingsCause {
     BeyondLimits,

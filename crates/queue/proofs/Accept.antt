@@ -1,10 +1,12 @@
 -- Accepting a ticket, alone or into a run, keeps the queue's invariant.
-use Rattle.std.proofs.Common.{◌≡◌, ℕ, ◌+◌, ◌≤◌, Bool, true, false, cond, eqb, ◌⊎◌, List, [], ◌∷◌, ◌++◌, sym, refl, ap, subst, inl, inr}
+use Rattle.std.proofs.Common.{◌≡◌, ℕ, ◌+◌, ◌≤◌, Bool, true, false, cond, eqb, ◌⊎◌, List, [], ◌∷◌, ◌++◌, sym, refl, subst, inl, inr}
 use Rattle.std.proofs.lemmas.List.{append-nil}
+use Rattle.std.proofs.lemmas.List.Elements.{filter-append}
 use Rattle.std.proofs.lemmas.Bool.{not_from_true, and_parts, both_ways, eqb-true, eq-eqb}
 use Rattle.device.specs.Meaning.{is_flush}
 use Rattle.queue.specs.Queue.{Entry, waits, mine, of_run, All, Pairs, Apart}
 use Rattle.queue.specs.Runs.{Spans, done, back, front, Row}
+use Rattle.queue.proofs.OfRun.{zip}
 use Rattle.queue.specs.Sound.{joined, Fits, Leaves, UnbrokenFrom, Unbroken, Rowed, Sound, Alone, Joins}
 
 all_more : (P : Entry → Type 0) (es : List Entry) (n : Entry) → All P es → P n → All P (es ++ (n ∷ []))
@@ -28,15 +30,6 @@ unbroken_more : (es : List Entry) (n : Entry) → Unbroken es → Pairs (Late n)
 unbroken_more [] n u h = (tt, tt)
 unbroken_more (e ∷ es) n u h = (unbroken_from_more e es n u.0 h.0, unbroken_more es n u.1 h.1)
 
-of_run_more : (q : ℕ) (es : List Entry) (n : Entry) → of_run q (es ++ (n ∷ [])) ≡ of_run q es ++ of_run q (n ∷ [])
-of_run_more q [] n = refl
-of_run_more q (e ∷ es) n = go (of_run_more q es n) (mine q e)
-  where
-    go : of_run q (es ++ (n ∷ [])) ≡ of_run q es ++ of_run q (n ∷ []) → (b : Bool) →
-        cond b (e ∷ of_run q (es ++ (n ∷ []))) (of_run q (es ++ (n ∷ []))) ≡ cond b (e ∷ of_run q es) (of_run q es) ++ of_run q (n ∷ [])
-    go ih true = ap (λ l. e ∷ l) ih
-    go ih false = ih
-
 -- what is asked of a new ticket
 record Accepts (es : List Entry) (n : Entry) : Type 0 where
   fits : All (λ e. Fits e n) es
@@ -48,7 +41,7 @@ accept_sound es n s a =
     record {
       pairs = pairs_more Fits es n s.pairs a.fits;
       unbroken = unbroken_more es n s.unbroken a.late;
-      rows = λ q. subst Rowed (sym (of_run_more q es n)) (go q (mine q n) refl);
+      rows = λ q. subst Rowed (sym (filter-append (mine q) es (n ∷ []))) (go q (mine q n) refl);
     }
   where
     go : (q : ℕ) (b : Bool) → mine q n ≡ b → Rowed (of_run q es ++ cond b (n ∷ []) [])
@@ -56,10 +49,6 @@ accept_sound es n s a =
         let p = and_parts (waits n) (eqb n.run q) m in
         subst (λ z. Rowed (of_run z es ++ (n ∷ []))) (eqb-true n.run q p.1) (a.row p.0)
     go q false m = subst Rowed (sym (append-nil (of_run q es))) (s.rows q)
-
-all_zip : (P Q R : Entry → Type 0) (es : List Entry) → ((e : Entry) → P e → Q e → R e) → All P es → All Q es → All R es
-all_zip P Q R [] f p q = tt
-all_zip P Q R (e ∷ es) f p q = (f e p.0 q.0, all_zip P Q R es f p.1 q.1)
 
 late_alone : (es : List Entry) (n : Entry) → All (λ e. waits e ≡ true → e.run ≡ n.run → ⊥) es → Pairs (Late n) es
 unfolding Late
@@ -81,7 +70,7 @@ of_run_none q (e ∷ es) h = go (of_run_none q es h.1) (mine q e) refl
 pub alone_sound : (es : List Entry) (n : Entry) → Sound es → Alone es n → Sound (es ++ (n ∷ []))
 alone_sound es n s a =
     accept_sound es n s (record {
-      fits = all_zip _ _ (λ e. Fits e n) es
+      fits = zip _ _ (λ e. Fits e n) es
           (λ e t u. record {
             other = t;
             held = λ _ _. a.waiting;
@@ -112,9 +101,9 @@ pub joins_sound : (es : List Entry) (n : Entry) (f c : ℕ) → Sound es → Joi
 unfolding Late
 joins_sound es n f c s a =
     accept_sound es n s (record {
-      fits = all_zip _ _ (λ e. Fits e n) es
+      fits = zip _ _ (λ e. Fits e n) es
           (λ e t u. record { other = t; held = λ _ _. a.waiting; after = λ y _. absurd (both_ways n.ready a.waiting y); clean = λ w _ _. u.0 w; fellow = λ w _ k. let m = u.1 w k in (a.named, m.0, m.1) })
-          a.fresh (all_zip _ _ (λ e. (waits e ≡ true → Apart e n) × (waits e ≡ true → e.run ≡ n.run → (e.kind ≡ n.kind) × (is_flush e.kind ≡ false))) es (λ e x y. (x, y)) a.apart a.same);
+          a.fresh (zip _ _ (λ e. (waits e ≡ true → Apart e n) × (waits e ≡ true → e.run ≡ n.run → (e.kind ≡ n.kind) × (is_flush e.kind ≡ false))) es (λ e x y. (x, y)) a.apart a.same);
       late = a.late;
       row = λ _. row_more (of_run n.run es) n f c a.row a.touches a.short;
     })

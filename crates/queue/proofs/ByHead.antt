@@ -1,14 +1,10 @@
 -- Free in the words of the rules is free.
 use Rattle.std.proofs.Common.{◌≡◌, ℕ, Bool, true, false, eqb, List, [], ◌∷◌, sym, refl, ap, ◌∙◌}
-use Rattle.std.proofs.lemmas.Bool.{and_parts, both_ways, eqb-true}
+use Rattle.std.proofs.lemmas.Bool.{and_parts, both_ways, eqb-true, false_from_ne_true}
 use Rattle.device.specs.declared.interface.Kind.{Kind}
 use Rattle.device.specs.Meaning.{is_flush}
 use Rattle.queue.specs.Queue.{Entry, waits, mine, All, Apart, Clear, Free, Kinded}
 use Rattle.queue.specs.Sound.{Leaves, UnbrokenFrom, Unbroken, Sound, Unflushed, Unconflicted}
-
-not_so : (b : Bool) → (b ≡ true → ⊥) → b ≡ false
-not_so true n = absurd (n refl)
-not_so false n = refl
 
 -- past a ticket of the run
 past_head : (r : ℕ) (k : Kind) (h : Entry) (es : List Entry) → mine r h ≡ true → is_flush k ≡ false → Kinded r k es → UnbrokenFrom h es → Unconflicted r es → Free r es
@@ -24,7 +20,7 @@ past_head r k h (e ∷ es) m nf kd u a = (each es kd.1 a.0 u.0, past_head r k h 
     each (x ∷ xs) kx ax ux = (
       record {
         apart = ax.0;
-        passes = λ w _ mx. not_so (is_flush e.kind) (λ fl.
+        passes = λ w _ mx. false_from_ne_true (is_flush e.kind) (λ fl.
             let p = and_parts (waits x) (eqb x.run r) mx in (ux hp.0 w fl).0 p.0 (eqb-true h.run r hp.1 ∙ sym (eqb-true x.run r p.1)));
         last = λ _ _ mx. ap is_flush (kx.0 mx) ∙ nf;
       },

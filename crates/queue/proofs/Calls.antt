@@ -22,7 +22,7 @@ use Rattle.queue.proofs.Overlay.{serve_disk, serve_tickets, overlay_more, ticket
 use Rattle.queue.proofs.Runs.{one_write, row_each, row_cover, unreached, bytes_length}
 use Rattle.queue.proofs.Sound.{serve_sound}
 use Rattle.queue.proofs.Gather.{gathered_is, WholeWrites, part_left}
-use Rattle.queue.proofs.OfRun.{into_run, from_run, zip, whole_writes, only_first, right_writes, quiet, due_stretch, mine_waits}
+use Rattle.queue.proofs.OfRun.{into_run, from_run, zip, every, whole_writes, only_first, right_writes, quiet, due_stretch, mine_waits}
 
 -- ── the order around a flush ──
 
@@ -84,6 +84,13 @@ all_flushed disk medium (turns {t} {ts} {us} w r) f = (
 
 -- ── what is left waiting ──
 
+-- an entry that is no waiting write over a sector puts nothing there
+unput : (w x y z : Bool) → (w && (x && y)) ≡ false → ((w && x) && (y && z)) ≡ false
+unput true true true z e = absurd (true≢false e)
+unput true true false z e = refl
+unput true false y z e = refl
+unput false x y z e = refl
+
 module _ (bad : ℕ → Bool) (r : ℕ) (answer : Entry → List ℕ) where
   count_served : (es : List Entry) (a b : Contents) → waiting (tickets_of bad (served r answer es) b) + length (of_run r es) ≡ waiting (tickets_of bad es a)
   count_served [] a b = refl
@@ -103,25 +110,13 @@ module _ (bad : ℕ → Bool) (r : ℕ) (answer : Entry → List ℕ) where
   unwritten [] a s h = refl
   unwritten (e ∷ es) a s h =
       let p = or_parts (waits e && (is_write e.kind && hits e s)) (waiting_write_at s (tickets_of bad es (put bad e a))) h in
-      or_from (puts bad e s) (reached bad es s) (less (waits e) (is_write e.kind) (hits e s) (not (bad s)) p.0) (unwritten es (put bad e a) s p.1)
-    where
-      less : (w x y z : Bool) → (w && (x && y)) ≡ false → ((w && x) && (y && z)) ≡ false
-      less true true true z e = absurd (true≢false e)
-      less true true false z e = refl
-      less true false y z e = refl
-      less false x y z e = refl
+      or_from (puts bad e s) (reached bad es s) (unput (waits e) (is_write e.kind) (hits e s) (not (bad s)) p.0) (unwritten es (put bad e a) s p.1)
 
   unopened : (es : List Entry) (a : Contents) (s : ℕ) → open_write_at s (tickets_of bad es a) ≡ false → reached bad es s ≡ false
   unopened [] a s h = refl
   unopened (e ∷ es) a s h =
       let p = or_parts (is_write e.kind && hits e s) (open_write_at s (tickets_of bad es (put bad e a))) h in
-      or_from (puts bad e s) (reached bad es s) (less (waits e) (is_write e.kind) (hits e s) (not (bad s)) p.0) (unopened es (put bad e a) s p.1)
-    where
-      less : (w x y z : Bool) → (x && y) ≡ false → ((w && x) && (y && z)) ≡ false
-      less true true true z e = absurd (true≢false e)
-      less true true false z e = refl
-      less true false y z e = refl
-      less false x y z e = refl
+      or_from (puts bad e s) (reached bad es s) (unput (waits e) (is_write e.kind) (hits e s) (not (bad s)) (and_right (waits e) (is_write e.kind && hits e s) p.0)) (unopened es (put bad e a) s p.1)
 
   -- none of the run covers it either
   uncovered : (k : Kind) (es : List Entry) (a : Contents) (s : ℕ) → Kinded r k es → waiting_write_at s (tickets_of bad es a) ≡ false → (is_write k && covered (of_run r es) s) ≡ false
@@ -206,8 +201,7 @@ module _ (bad : ℕ → Bool) (r : ℕ) (answer : Entry → List ℕ) where
 -- ── a turn ──
 
 alike_of : (r : ℕ) (k : Kind) (es : List Entry) → Kinded r k es → Alike r (is_write k) es
-alike_of r k [] h = tt
-alike_of r k (e ∷ es) h = (λ m. ap is_write (h.0 m), alike_of r k es h.1)
+alike_of r k es h = every _ _ es (λ e a m. ap is_write (a m)) h
 
 part_take : (before : List ℕ) (f c t : ℕ) → c * 128 ≤ length before → covers f c t ≡ true → part (take (c * 128) before) (t - f) ≡ part before (t - f)
 part_take before f c t room h =
@@ -223,11 +217,7 @@ below_after : (m : Meaning) (es : List Entry) (r : ℕ) (k : Kind) (f c : ℕ) (
 below_after m es r k f c before fill ch = go k ch.kinded ch.gathers
   where
     still : (j : Kind) → is_write j ≡ false → Kinded r j es → m.disk ≡ overlay m.bad (of_run r es) m.disk
-    still j w h = sym (quiet m.bad (of_run r es) m.disk (into_run (λ e. is_write e.kind ≡ false) r es (zip (λ e. mine r e ≡ true → e.kind ≡ j) (λ _. Unit {0}) _ es (λ e x _ q. ap is_write (x q) ∙ w) h (units es))))
-      where
-        units : (xs : List Entry) → All (λ _. Unit {0}) xs
-        units [] = tt
-        units (x ∷ xs) = (tt, units xs)
+    still j w h = sym (quiet m.bad (of_run r es) m.disk (into_run (λ e. is_write e.kind ≡ false) r es (every (λ e. mine r e ≡ true → e.kind ≡ j) _ es (λ e x q. ap is_write (x q) ∙ w) h)))
 
     go : (j : Kind) → Kinded r j es → (is_write j ≡ true → (buffer : List ℕ) × (c * 128 ≤ length buffer) × (before ≡ gathered f (of_run r es) buffer)) →
         disk_after j m (asked j f c) (sent j c before) ≡ overlay m.bad (of_run r es) m.disk

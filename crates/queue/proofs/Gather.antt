@@ -1,11 +1,13 @@
 -- The data of a run, put into one buffer ticket by ticket.
-use Rattle.std.proofs.Common.{◌≡◌, ℕ, ◌+◌, ◌-◌, ◌*◌, ◌<◌, ◌≤◌, Bool, true, false, cond, ◌&&◌, ltb, leb, ◌⊎◌, List, [], ◌∷◌, ◌++◌, length, take, drop, sym, refl, ap, ◌∙◌, subst, ap₂, inl, inr, arith, length-append, length-drop, take-append-drop, length-take-le}
+use Rattle.std.proofs.Common.{◌≡◌, ℕ, ◌+◌, ◌-◌, ◌*◌, ◌<◌, ◌≤◌, true, cond, ◌&&◌, ltb, leb, ◌⊎◌, List, [], ◌∷◌, ◌++◌, length, take, drop, sym, refl, ap, ◌∙◌, subst, ap₂, inl, inr, arith, length-append, length-drop, take-append-drop, length-take-le}
 use lib.Seq.{take-append-le, drop-append-le, drop-append-add}
 use Rattle.std.proofs.lemmas.Bool.{cases_lt, le-leb, lt-leb, lt-ltb, le-ltb, and_from, and_left, and_right}
+use Rattle.std.proofs.Math.Bool.{and-true}
 use Rattle.std.proofs.lemmas.Bool.Decides.{nat_tests}
-use Rattle.device.specs.Meaning.{Contents, is_write, covers, part}
+use Rattle.device.specs.Meaning.{is_write, covers, part}
 use Rattle.queue.specs.Queue.{Entry, waits, hits, puts, put, overlay, All}
 use Rattle.queue.specs.Runs.{no_bad, pasted, gathered}
+use Rattle.queue.proofs.Runs.{over_any}
 
 pub part_left : (p q : List ℕ) (i : ℕ) → i * 128 + 128 ≤ length p → part (p ++ q) i ≡ part p i
 part_left p q i h =
@@ -58,10 +60,6 @@ length_pasted buffer bytes at h =
     let b = length-append bytes (drop (at + length bytes) buffer) in
     let c = length-drop (at + length bytes) buffer in omega arith)
 
-same_over : (bad : ℕ → Bool) (es : List Entry) (d d' : Contents) (s : ℕ) → d s ≡ d' s → overlay bad es d s ≡ overlay bad es d' s
-same_over bad [] d d' s h = h
-same_over bad (e ∷ es) d d' s h = same_over bad es (put bad e d) (put bad e d') s (ap (cond (puts bad e s) (part e.bytes (s - e.first))) h)
-
 -- each ticket is a waiting write inside the run, with its data
 abbrev pub WholeWrites : (f c : ℕ) → List Entry → Type 0
 WholeWrites f c es = All (λ e. ((waits e && is_write e.kind) ≡ true) × (f ≤ e.first) × (e.first + e.count ≤ f + c) × (length e.bytes ≡ e.count * 128)) es
@@ -71,8 +69,8 @@ pub gathered_is : (f c : ℕ) (es : List Entry) (buffer : List ℕ) (s : ℕ) �
 gathered_is f c [] buffer s w l h = refl
 gathered_is f c (e ∷ es) buffer s w l h =
     gathered_is f c es (pasted buffer ((e.first - f) * 128) e.bytes) s w.1 (subst (λ n. c * 128 ≤ n) (sym kept) l) h
-    ∙ same_over no_bad es (λ x. part (pasted buffer ((e.first - f) * 128) e.bytes) (x - f)) (put no_bad e (λ x. part buffer (x - f))) s
-    (part_pasted buffer e.bytes (e.first - f) e.count (s - f) w.0.3 fit ∙ ap₂ (λ b i. cond b (part e.bytes i) (part buffer (s - f))) test (omega arith))
+    ∙ over_any no_bad es (λ x. part (pasted buffer ((e.first - f) * 128) e.bytes) (x - f)) (put no_bad e (λ x. part buffer (x - f))) s
+    (λ _. part_pasted buffer e.bytes (e.first - f) e.count (s - f) w.0.3 fit ∙ ap₂ (λ b i. cond b (part e.bytes i) (part buffer (s - f))) test (omega arith))
   where
     fit : (e.first - f) * 128 + e.count * 128 ≤ length buffer
     fit = let a = w.0.1 in let b = w.0.2 in omega arith
@@ -86,8 +84,4 @@ gathered_is f c (e ∷ es) buffer s w l h =
     test : covers (e.first - f) e.count (s - f) ≡ puts no_bad e s
     test =
         shift e.first e.count s w.0.1 h
-        ∙ sym (ap (λ b. b && (hits e s && true)) w.0.0 ∙ and_true (hits e s))
-      where
-        and_true : (b : Bool) → (b && true) ≡ b
-        and_true true = refl
-        and_true false = refl
+        ∙ sym (ap (λ b. b && (hits e s && true)) w.0.0 ∙ and-true (hits e s))

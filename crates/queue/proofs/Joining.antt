@@ -22,7 +22,7 @@ use Rattle.queue.specs.Linked.{Same, Linked, ready, waits}
 use Rattle.queue.proofs.Accept.{of_run_none}
 use Rattle.queue.proofs.OfRun.{from_run}
 use Rattle.queue.proofs.Sound.{oldest_free}
-use Rattle.queue.proofs.Linking.{waits_of, mine_is, apart_of, all_from, pairs_from, Two, two, one, stretch_is}
+use Rattle.queue.proofs.Linking.{mine_is, apart_of, all_from, pairs_from, Two, two, one, stretch_is}
 
 -- ── a flush that is oldest ──
 
@@ -105,7 +105,7 @@ module _ (es : List Entry) (ws : List Queued) (x : Queued) (l : Linked es ws) (s
     short = short;
     fresh = others;
     unused = all_from _ es (λ mid e post h we k.
-        let q = one es mid e post h l (waits_of e we) in
+        let q = one es mid e post h l (not-true e.ready we) in
         both_ways (is_in x.tag q.0) (not_in (is_in x.tag) q.0 ws q.2 (fresh_heads x.tag [] ws sound refl fresh))
         (eq-eqb q.0.head x.tag (sym q.1.run ∙ k ∙ own ∙ tag)));
   }
@@ -119,13 +119,13 @@ module _ (es : List Entry) (ws : List Queued) (x : Queued) (l : Linked es ws) (s
     short = subst (λ c. q.count + c ≤ longest_run) (sym same_as.count) (leb-true (q.count + x.count) longest_run (and_parts (leb (q.count + x.count) longest_run) (past_flushes q.name ws) room.1).0);
     fresh = others;
     apart = all_from _ es (λ mid e post h we.
-        let o = one es mid e post h l (waits_of e we) in
+        let o = one es mid e post h l (not-true e.ready we) in
         apart_of e n o.0 (in_run x q.name) o.1 same_as (not_in (conflict x) o.0 ws o.2 free));
     same = all_from _ es (λ mid e post h we k.
-        let o = one es mid e post h l (waits_of e we) in
+        let o = one es mid e post h l (not-true e.ready we) in
         kinds e o.0 o.1 o.2 k);
     late = pairs_from _ es (λ pre e mid y post h we wy fl k.
-        let t = two es pre e mid y post h l (waits_of e we) (waits_of y wy) in
+        let t = two es pre e mid y post h l (not-true e.ready we) (not-true y.ready wy) in
         flush_between e y t fl k);
     row = subst (λ r. Row (of_run r es) q.begins q.count) (sym run) (stretch_is es ws q l s fits.0).0;
     touches = elim fits.2 [

@@ -16,8 +16,8 @@ use Rattle.queue.specs.Queue.{Entry, waits as is_waiting, mine, of_run, All, Pai
 use Rattle.queue.specs.Runs.{Spans, done, back, front, Row}
 use Rattle.queue.specs.Sound as queue
 use Rattle.queue.specs.Linked.{Same, Linked, none, ready, waits}
-use Rattle.queue.proofs.Runs.{row_each}
-use Rattle.queue.proofs.OfRun.{from_run, zip}
+use Rattle.queue.proofs.Runs.{spans_within, row_each}
+use Rattle.queue.proofs.OfRun.{from_run, every}
 use Rattle.queue.proofs.ByHead.{by_head}
 
 -- ── parts of linked lists ──
@@ -30,9 +30,6 @@ linked_parts (x ∷ xs) ys (waits {q = q} w s r) = let p = linked_parts xs ys r 
 pub linked_first : {e : Entry} {es : List Entry} {ws : List Queued} → Linked (e ∷ es) ws → e.ready ≡ false → (q : Queued) × (qs : List Queued) × (ws ≡ q ∷ qs) × Same e q × Linked es qs
 linked_first {e} (ready w r) h = absurd (both_ways e.ready h w)
 linked_first (waits {q = q} {ws = ws} w s r) h = (q, ws, refl, s, r)
-
-pub waits_of : (e : Entry) → is_waiting e ≡ true → e.ready ≡ false
-waits_of e w = not-true e.ready w
 
 -- of the run by one is of the run by the other
 pub mine_is : (r : ℕ) (e : Entry) (q : Queued) → e.ready ≡ false → Same e q → mine r e ≡ is_in r q
@@ -101,7 +98,7 @@ two es pre e mid x post {ws} h l we wx =
       between = m.0;
       qx = g.0;
       younger = g.1;
-      stands = p.2 ∙ ap (λ l. p.0 ++ l) (f.2 ∙ ap (λ l. f.0 ∷ l) (m.2 ∙ ap (λ l. m.0 ++ l) g.2));
+      stands = cc (p.2, f.2, m.2, g.2);
       first = f.3;
       second = g.3;
     }
@@ -120,8 +117,8 @@ unconflicted r es ws l f = pairs_from _ es (λ pre e mid x post h we me mx. apar
   where
     apart : (pre : List Entry) (e : Entry) (mid : List Entry) (x : Entry) (post : List Entry) → es ≡ pre ++ (e ∷ (mid ++ (x ∷ post))) → is_waiting e ≡ true → mine r e ≡ false → mine r x ≡ true → Apart e x
     apart pre e mid x post h we me mx =
-        let re = waits_of e we in
-        let rx = waits_of x (and_parts (is_waiting x) (eqb x.run r) mx).0 in
+        let re = not-true e.ready we in
+        let rx = not-true x.ready (and_parts (is_waiting x) (eqb x.run r) mx).0 in
         let t = two es pre e mid x post h l re rx in
         apart_of e x t.qe t.qx t.first t.second
         (f.apart (t.older ++ (t.qe ∷ t.between)) t.qx t.younger (t.stands ∙ sym (append_assoc t.older (t.qe ∷ t.between) (t.qx ∷ t.younger)))
@@ -129,7 +126,7 @@ unconflicted r es ws l f = pairs_from _ es (λ pre e mid x post h we me mx. apar
 
 unflushed : (r : ℕ) {es : List Entry} {ws : List Queued} → Linked es ws → before_flushes r ws ≡ true → queue.Unflushed r es
 unflushed r none h = tt
-unflushed r (ready {e} w l) h = λ m. (λ y. absurd (both_ways e.ready (waits_of e y) w), unflushed r l h)
+unflushed r (ready {e} w l) h = λ m. (λ y. absurd (both_ways e.ready (not-true e.ready y) w), unflushed r l h)
 unflushed r (waits {e} {q} {ws = qs} w s l) h = λ m.
     let p = past m (or_cases (is_in r q) (not (is_flush q.kind) && before_flushes r qs) h) in
     (λ y. ap is_flush s.kind ∙ not-true (is_flush q.kind) p.0, unflushed r l p.1)
@@ -141,7 +138,7 @@ unflushed r (waits {e} {q} {ws = qs} w s l) h = λ m.
 -- the tickets of a run are of its kind
 pub kinded : (r : ℕ) (k : Kind) {es : List Entry} {ws : List Queued} → Linked es ws → any (strange r k) ws ≡ false → Kinded r k es
 kinded r k none h = tt
-kinded r k (ready {e} w l) h = (λ m. absurd (both_ways e.ready (waits_of e (and_parts (is_waiting e) (eqb e.run r) m).0) w), kinded r k l h)
+kinded r k (ready {e} w l) h = (λ m. absurd (both_ways e.ready (not-true e.ready (and_parts (is_waiting e) (eqb e.run r) m).0) w), kinded r k l h)
 kinded r k (waits {e} {q} {ws = qs} w s l) h =
     let p = or_parts (strange r k q) (any (strange r k) qs) h in (
       λ m.
@@ -195,11 +192,6 @@ spans_low : {es : List Entry} {f c f' c' : ℕ} (g : ℕ) → Spans es f c f' c'
 spans_low g done a b = omega arith
 spans_low {f = f} {c = c} g (back {e} {es} h r) a b = ap (λ n. low n es) {x = min g e.first} {y = g} (omega arith) ∙ spans_low g r a b
 spans_low g (front {e} {es} h r) a b = let k = spans_within r in spans_low (min g e.first) r (omega arith) (omega arith)
-  where
-    spans_within : {xs : List Entry} {f c f' c' : ℕ} → Spans xs f c f' c' → f' ≤ f
-    spans_within done = omega arith
-    spans_within (back h r) = spans_within r
-    spans_within (front h r) = let k = spans_within r in omega arith
 
 spans_total : {es : List Entry} {f c f' c' : ℕ} → Spans es f c f' c' → c + total es ≡ c'
 spans_total done = omega arith
@@ -229,10 +221,7 @@ some_mine r (ready {e = x} {es} w l) h i k e = some_mine r l h i k (sym (ap (λ 
 some_mine r (waits {e = x} {q} {es} {ws = qs} w s l) h i k e = go (mine r x) refl e (λ j f. some_mine r l h j k f) i
   where
     go : (b : Bool) → mine r x ≡ b → cond b (x ∷ of_run r es) (of_run r es) ≡ [] → (In h qs → of_run r es ≡ [] → ⊥) → (h ≡ q) ⊎ (In h qs) → ⊥
-    go true m f ih j = no_cons (of_run r es) f
-      where
-        no_cons : (xs : List Entry) → x ∷ xs ≡ [] → ⊥
-        no_cons xs g = let z : ◌≡◌ {A = ℕ} 0 1 = cc in omega arith
+    go true m f ih j = cc
     go false m f ih (inl same_one) = both_ways (mine r x) m (mine_is r x q w s ∙ ap (is_in r) (sym same_one) ∙ k)
     go false m f ih (inr j) = ih j f
 
@@ -259,14 +248,10 @@ stretch_is es ws q l s o = subst (λ x. Row (of_run x.name es) x.begins x.count 
         let f = p.0 in
         let c = p.1 in
         let row = p.2 in
-        let above : f ≤ h.first = entry_of_queued r (λ n. f ≤ n) l (zip (λ e. mine r e ≡ true → (f ≤ e.first) × (e.first + e.count ≤ f + c)) (λ e. Unit {0}) (λ e. mine r e ≡ true → f ≤ e.first) es (λ e a b m. (a m).0) (from_run _ r es (row_each (of_run r es) f c row)) (units es)) h inside own in
+        let above : f ≤ h.first = entry_of_queued r (λ n. f ≤ n) l (every (λ e. mine r e ≡ true → (f ≤ e.first) × (e.first + e.count ≤ f + c)) (λ e. mine r e ≡ true → f ≤ e.first) es (λ e a m. (a m).0) (from_run _ r es (row_each (of_run r es) f c row))) h inside own in
         let lo : lowest_sector r h.first ws ≡ f = low_is r h.first l ∙ row_low (of_run r es) f c h.first row above in
         let co : sectors r ws ≡ c = total_is r l ∙ row_total (of_run r es) f c row in
         (subst (λ n. Row (of_run r es) n (sectors r ws)) (sym lo) (subst (λ n. Row (of_run r es) f n) (sym co) row), subst (λ n. n ≤ longest_run) (sym co) p.3)
-      where
-        units : (xs : List Entry) → All (λ e. Unit {0}) xs
-        units [] = tt
-        units (x ∷ xs) = (tt, units xs)
 
 -- a free run of the rules is free among the open tickets, and of one kind
 pub free_run : (es : List Entry) (ws : List Queued) (q : Run) → Linked es ws → queue.Sound es → SoundFrom [] ws → OfHead ws q → free ws q.name ≡ true → Free q.name es × Kinded q.name q.kind es

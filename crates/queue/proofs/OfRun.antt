@@ -31,6 +31,10 @@ pub zip : (P Q R : Entry → Type 0) (es : List Entry) → ((e : Entry) → P e 
 zip P Q R [] f p q = tt
 zip P Q R (e ∷ es) f p q = (f e p.0 q.0, zip P Q R es f p.1 q.1)
 
+pub every : (P Q : Entry → Type 0) (es : List Entry) → ((e : Entry) → P e → Q e) → All P es → All Q es
+every P Q [] f p = tt
+every P Q (e ∷ es) f p = (f e p.0, every P Q es f p.1)
+
 pub mine_waits : (r : ℕ) (e : Entry) → mine r e ≡ true → waits e ≡ true
 mine_waits r e m = (and_parts (waits e) (eqb e.run r) m).0
 
@@ -45,8 +49,7 @@ whole_writes r f c es k fill row =
     (row_each (of_run r es) f c row)
 
 pub only_first : (f c : ℕ) (es : List Entry) → WholeWrites f c es → All (λ e. (waits e && is_write e.kind) ≡ true) es
-only_first f c [] h = tt
-only_first f c (e ∷ es) h = (h.0.0, only_first f c es h.1)
+only_first f c es h = every _ _ es (λ e a. a.0) h
 
 pub right_writes : (r : ℕ) (answer : Entry → List ℕ) (d : Contents) (es : List Entry) → Alike r true es → Right r answer d es
 right_writes r answer d [] k = tt

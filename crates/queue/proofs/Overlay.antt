@@ -157,9 +157,6 @@ inside_puts bad r writes e [] k h = tt
 inside_puts bad r writes e (x ∷ es) k h =
     (λ m w s p _. both_ways writes (sym (h.0 m) ∙ w) (sym k ∙ puts_writes bad e s p), inside_puts bad r writes e es k h.1)
 
-mine_waits : (r : ℕ) (e : Entry) → mine r e ≡ true → e.ready ≡ false
-mine_waits r e m = not-true e.ready (and_parts (waits e) (eqb e.run r) m).0
-
 turned_as : {t u : Ticket} {ts us : List Ticket} → u ≡ made_ready t → t.ready ≡ false → Readied ts us → Readied (t ∷ ts) (u ∷ us)
 turned_as {t} {u} {ts} {us} e w r = subst (λ v. Readied (t ∷ ts) (v ∷ us)) (sym e) (turns w r)
 
@@ -192,7 +189,7 @@ serve_tickets bad r writes answer (e ∷ es) a f k t =
         Readied (ticket bad e a ∷ tickets_of bad es (put bad e a))
         (tickets_of bad (cond b (answered e (answer e)) e ∷ served r answer es) (overlay bad (cond b (e ∷ of_run r es) (of_run r es)) a))
     go ih true m =
-        turned_as (ap (with_bytes bad e true) (answers m (is_write e.kind) refl)) (mine_waits r e m)
+        turned_as (ap (with_bytes bad e true) (answers m (is_write e.kind) refl)) (not-true e.ready (and_parts (waits e) (eqb e.run r) m).0)
         (ih (right_put bad r answer e es a (inside_puts bad r writes e es (k.0 m) k.1) t.1))
     go ih false m =
         let b : Beside r e es = beside r e es f.0 m in

@@ -2,6 +2,7 @@
 use Rattle.std.proofs.Common.{◌≡◌, ℕ, zero, suc, ◌+◌, ◌-◌, ◌*◌, ◌/◌, ◌%◌, ◌^◌, ◌<◌, ◌≤◌, Bool, true, false, cond, not, ◌&&◌, ◌||◌, List, [], ◌∷◌, ◌++◌, length, take, drop, sym, refl, ap, ◌∙◌, ap₂, add-zero, add_assoc, add-suc, mul_comm, arith, length-append, take_at, drop_at, pow-add}
 use mathlib.Core.Path.{fun_ext}
 use lib.Arith.{digits_div, digits_mod}
+use Rattle.std.proofs.Math.Bool.{or_assoc, or-false, and-or_distrib_right}
 use Rattle.std.proofs.lemmas.List.{append-nil, append_assoc}
 use Rattle.std.proofs.lemmas.Bool.{not-true, and_parts, or_parts, both_ways}
 use Rattle.std.proofs.lemmas.Bool.Decides.{nat_tests}
@@ -15,22 +16,14 @@ join_back f c n s = grind (arith, nat_tests)
 join_front : (f c g n s : ℕ) → g + n ≡ f → (covers f c s || covers g n s) ≡ covers g (c + n) s
 join_front f c g n s h = grind (arith, nat_tests)
 
-or_assoc : (a b c : Bool) → (a || (b || c)) ≡ ((a || b) || c)
-or_assoc true b c = refl
-or_assoc false b c = refl
-
 spans_cover : {es : List Entry} {f c f' c' : ℕ} (s : ℕ) → Spans es f c f' c' → (covers f c s || covered es s) ≡ covers f' c' s
-spans_cover {f = f} {c = c} s done = or_false (covers f c s)
-  where
-    or_false : (b : Bool) → (b || false) ≡ b
-    or_false true = refl
-    or_false false = refl
+spans_cover {f = f} {c = c} s done = or-false (covers f c s)
 spans_cover {f = f} {c = c} s (back {e = e} {es = es} h r) =
-    or_assoc (covers f c s) (hits e s) (covered es s)
+    sym (or_assoc (covers f c s) (hits e s) (covered es s))
     ∙ ap (λ b. b || covered es s) (ap (λ x. covers f c s || covers x e.count s) h ∙ join_back f c e.count s)
     ∙ spans_cover s r
 spans_cover {f = f} {c = c} s (front {e = e} {es = es} h r) =
-    or_assoc (covers f c s) (hits e s) (covered es s)
+    sym (or_assoc (covers f c s) (hits e s) (covered es s))
     ∙ ap (λ b. b || covered es s) (join_front f c e.first e.count s h)
     ∙ spans_cover s r
 
@@ -39,7 +32,7 @@ pub row_cover : (es : List Entry) (f c s : ℕ) → Row es f c → covered es s 
 row_cover [] f c s h = elim h [ ]
 row_cover (e ∷ es) f c s h = spans_cover s h
 
-spans_within : {es : List Entry} {f c f' c' : ℕ} → Spans es f c f' c' → (f' ≤ f) × (f + c ≤ f' + c')
+pub spans_within : {es : List Entry} {f c f' c' : ℕ} → Spans es f c f' c' → (f' ≤ f) × (f + c ≤ f' + c')
 spans_within done = omega arith
 spans_within (back h r) = let k = spans_within r in omega arith
 spans_within (front h r) = let k = spans_within r in omega arith
@@ -61,7 +54,7 @@ unreached bad (e ∷ es) d s h =
     unreached bad es (put bad e d) s p.1 ∙ ap (λ b. cond b (part e.bytes (s - e.first)) (d s)) p.0
 
 -- where one reaches it, what lay there before does not matter
-over_any : (bad : ℕ → Bool) (es : List Entry) (d d' : Contents) (s : ℕ) → (reached bad es s ≡ false → d s ≡ d' s) → overlay bad es d s ≡ overlay bad es d' s
+pub over_any : (bad : ℕ → Bool) (es : List Entry) (d d' : Contents) (s : ℕ) → (reached bad es s ≡ false → d s ≡ d' s) → overlay bad es d s ≡ overlay bad es d' s
 over_any bad [] d d' s h = h refl
 over_any bad (e ∷ es) d d' s h = over_any bad es (put bad e d) (put bad e d') s (go (puts bad e s) h)
   where
@@ -80,14 +73,7 @@ over_good bad (e ∷ es) d s g d' h =
 reached_is : (bad : ℕ → Bool) (es : List Entry) (s : ℕ) → All (λ e. (waits e && is_write e.kind) ≡ true) es → reached bad es s ≡ (covered es s && not (bad s))
 reached_is bad [] s h = refl
 reached_is bad (e ∷ es) s h =
-    ap₂ ◌||◌ (ap (λ b. b && (hits e s && not (bad s))) h.0) (reached_is bad es s h.1) ∙ spread (hits e s) (covered es s) (not (bad s))
-  where
-    spread : (a b c : Bool) → ((a && c) || (b && c)) ≡ ((a || b) && c)
-    spread true true true = refl
-    spread true true false = refl
-    spread true false true = refl
-    spread true false false = refl
-    spread false b c = refl
+    ap₂ ◌||◌ (ap (λ b. b && (hits e s && not (bad s))) h.0) (reached_is bad es s h.1) ∙ sym (and-or_distrib_right (hits e s) (covered es s) (not (bad s)))
 
 -- the run's data, gathered over any bytes, written at once: the waiting writes of the run put on one by one
 pub one_write : (bad : ℕ → Bool) (es : List Entry) (f c : ℕ) (gathered : List ℕ) (blank d : Contents) →

@@ -1,5 +1,5 @@
 -- The open tickets of an elevator, the oldest first, over the disk below.
-use Rattle.std.specs.Prelude.{◌≡◌, ℕ, ◌-◌, ◌*◌, Bool, true, false, cond, not, ◌&&◌, ◌||◌, List, [], ◌∷◌, length, ◌==◌}
+use Rattle.std.specs.Prelude.{◌≡◌, ℕ, ◌-◌, ◌*◌, Bool, true, false, cond, not, ◌&&◌, ◌||◌, List, [], ◌∷◌, map, filter, length, ◌==◌}
 use Rattle.device.specs.declared.interface.Kind.{Kind}
 use Rattle.device.specs.declared.interface.Kind.TheVariants.{Read, Write, Flush}
 use Rattle.device.specs.Meaning.{Ticket, Contents, is_write, is_flush, covers, part, mask_of, bytes_of, sector_bytes}
@@ -63,8 +63,7 @@ abbrev pub mine : ℕ → Entry → Bool
 mine r e = waits e && e.run == r
 
 abbrev pub of_run : ℕ → List Entry → List Entry
-of_run r [] = []
-of_run r (e ∷ es) = cond (mine r e) (e ∷ of_run r es) (of_run r es)
+of_run r es = filter (mine r) es
 
 -- a ticket served: ready, with what its read answers
 abbrev pub answered : Entry → List ℕ → Entry
@@ -74,8 +73,7 @@ abbrev pub serve : ℕ → (Entry → List ℕ) → Entry → Entry
 serve r answer e = cond (mine r e) (answered e (answer e)) e
 
 abbrev pub served : ℕ → (Entry → List ℕ) → List Entry → List Entry
-served r answer [] = []
-served r answer (e ∷ es) = serve r answer e ∷ served r answer es
+served r answer es = map (serve r answer) es
 
 abbrev pub All : (Entry → Type 0) → List Entry → Type 0
 All P [] = Unit {0}

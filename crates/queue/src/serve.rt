@@ -1,23 +1,14 @@
 // One run or flush, served by the device below.
-ghost use Rattle.std.specs.Prelude.{◌≡◌, ℕ, ◌*◌, ◌≤◌, min, cond, length};
+ghost use Rattle.std.specs.Prelude.{◌≡◌, ℕ, ◌*◌, ◌≤◌, length};
 ghost use Rattle.device.specs.Meaning.{sector_bytes};
-ghost use Rattle.device.specs.Submit.{due_length};
-ghost use Rattle.queue.specs.Serve.{Servable, Served, Called};
+ghost use Rattle.queue.specs.Serve.{Tried, Servable, Served, Called};
 
-use device::{Device, Kind, Request, SECTOR};
+use device::{Device, Kind, Request};
 
-/// The bytes that go down with a request of the kind.
-fn data_length(kind: Kind, count: u32) -> usize
-    ensures { result ≡ due_length kind count }
-{
-    match kind {
-        Kind::Write => count as usize * SECTOR,
-        Kind::Read | Kind::Flush => 0,
-    }
-}
-
+// Kind, first sector and count come one by one: a flush has no run, and a struct of the three would only be taken apart here.
+// Every input is taken, by a rule of the project: a submit or collect that is refused below shows as the mask 0, and `Tried` says which.
 /// Serves a run, or a flush, by one submit, one turn and one collect under tag 0 and at one tick, and answers the turn's ticks and
-/// the run's mask. A write's data is the front of the buffer; a read's bytes are left there.
+/// the run's mask, or 0 where the collect is refused. A write's data is the front of the buffer; a read's bytes are left there.
 pub fn serve_below<D: Device>(
     below: &mut D,
     kind: Kind,
@@ -26,21 +17,19 @@ pub fn serve_below<D: Device>(
     buffer: &mut [u8],
     tick: u32,
 ) -> (u32, u8)
-    ensures keeps { D.kept below.old → D.kept below.new }
-    ensures serves { D.kept below.old → Servable (D.meaning below.old) kind first count → count * sector_bytes ≤ length buffer.old → Served (D.meaning below.old) (D.meaning below.new) kind first count buffer.old buffer.new result.0 result.1 }
-    ensures calls { D.kept below.old → Servable (D.meaning below.old) kind first count → count * sector_bytes ≤ length buffer.old → Called D.does below.old below.new kind first count buffer.old buffer.new tick result.0 result.1 }
+    ensures tries { Tried D.meaning D.does below.old below.new kind first count buffer.old buffer.new tick result.0 result.1 }
+    ensures serves { Servable (D.meaning below.old) kind first count → count * sector_bytes ≤ length buffer.old → Served (D.meaning below.old) (D.meaning below.new) kind first count buffer.old buffer.new result.0 result.1 }
+    ensures calls { Servable (D.meaning below.old) kind first count → count * sector_bytes ≤ length buffer.old → Called D.does below.old below.new kind first count buffer.old buffer.new tick result.0 result.1 }
 {
-    let given = data_length(kind, count).min(buffer.len());
+    let given = kind.due_length(count).min(buffer.len());
     let request = Request {
         tag: 0,
-        kind: kind.number(),
+        kind: u8::from(kind),
         first,
         count,
     };
-    let _ = below.submit(request, &buffer[0..given], tick);
+    let _ = below.submit(request, &buffer[..given], tick);
     let ticks = below.turn(tick);
-    match below.collect(0, buffer) {
-        Ok(mask) => (ticks, mask),
-        Err(_) => (ticks, 0),
-    }
+    let mask = below.collect(0, buffer).unwrap_or(0);
+    (ticks, mask)
 }

@@ -11,5 +11,5 @@ state_of s = record {
   read_position = s.read_position;
   write_position = s.write_position;
   passed_over = s.passed_over;
-  waiting = vec_items s.waiting;
+  waiting = vec_items s.waiting.tickets;
 }

@@ -1,95 +1,102 @@
 // Which run or flush one turn serves.
 ghost use Rattle.std.specs.Prelude.{◌≡◌};
-ghost use Rattle.device.specs.declared.interface.Kind.TheVariants.{Write};
 ghost use Rattle.deadline.specs.Settings.{period, settings_of};
 ghost use Rattle.deadline.specs.Waiting.{free_runs};
-ghost use Rattle.deadline.specs.Turn.{by_oldest, choice, expired, some_of};
+ghost use Rattle.deadline.specs.Turn.{choice, expired, first_of, new_batch, next_of, position};
 ghost use Rattle.scheduler.specs.Meaning.{state_of};
-ghost use Rattle.scheduler.specs.Chosen.{first_found, next_found, begun_found};
 
-use crate::runs::{Prospects, prospects_of};
 use crate::state::Scheduler;
-use deadline::{Batch, Choice, Queued, Run, Settings};
+use deadline::{Batch, Choice, Run};
 use device::Kind;
 
-/// The ticks after which a waiting run of the kind is expired.
-fn period_of(settings: Settings, kind: Kind) -> u32
-    ensures { result ≡ period (settings_of settings) kind }
-{
-    match kind {
-        Kind::Read => settings.read_expire,
-        Kind::Write => settings.write_expire,
-        Kind::Flush => 0,
-    }
-}
-
-/// A turn's choice, and whether a free write waits.
-#[derive(Clone, Copy)]
-pub(crate) struct Decision {
-    pub(crate) chosen: Choice,
-    pub(crate) writable: bool,
-}
-
 impl Scheduler {
+    /// The ticks after which a waiting run of the kind is expired.
+    fn period(&self, kind: Kind) -> u32
+        ensures { result ≡ period (settings_of self.now.settings) kind }
+    {
+        match kind {
+            Kind::Read => self.settings.read_expire,
+            Kind::Write => self.settings.write_expire,
+            Kind::Flush => 0,
+        }
+    }
+
+    /// The end of the last served run of the kind.
+    fn position(&self, kind: Kind) -> u32
+        ensures { result ≡ position kind (state_of self.now) }
+    {
+        match kind {
+            Kind::Read => self.read_position,
+            Kind::Write => self.write_position,
+            Kind::Flush => 0,
+        }
+    }
+
     /// Whether a run has waited for its period.
     fn is_expired(&self, r: Run) -> bool
         ensures { result ≡ expired (settings_of self.now.settings) (state_of self.now) r }
     {
-        period_of(self.settings, r.kind) <= self.latest.saturating_sub(r.tick)
+        self.period(r.kind) <= self.latest.saturating_sub(r.tick)
     }
 
-    /// The first run of a new batch, of the free runs of its kind: the oldest if it is expired, else the lowest.
-    fn first_found(&self, found: Prospects) -> Option<Run>
-        ensures { result ≡ first_found (settings_of self.now.settings) (state_of self.now) found.oldest found.lowest }
+    /// The run that the batch goes on with: the lowest free one of its kind at or past the position.
+    fn next_of_batch(&self) -> Option<Run>
+        ensures { result ≡ next_of (settings_of self.now.settings) (state_of self.now) self.now.batch }
     {
-        match (found.oldest, found.lowest) {
-            (None, _) => None,
-            (Some(r), None) => Some(r),
-            (Some(r), Some(q)) => { if self.is_expired(r) { Some(r) } else { Some(q) } }
+        let (kind, served) = match self.batch {
+            Batch::Closed => return None,
+            Batch::Reading(n) => (Kind::Read, n),
+            Batch::Writing(n) => (Kind::Write, n),
+        };
+        if served < self.settings.fifo_batch {
+            self.waiting.lowest(kind, self.position(kind))
+        } else {
+            None
         }
+    }
+
+    /// The first run of a new batch of the kind: the oldest free one if it is expired, else the lowest at or past the position,
+    /// else the oldest.
+    fn first_of(&self, kind: Kind) -> Option<Run>
+        ensures { result ≡ first_of (settings_of self.now.settings) (state_of self.now) (position kind (state_of self.now)) (free_runs kind self.now.waiting.tickets.items) }
+    {
+        let oldest = self.waiting.oldest(kind)?;
+        if self.is_expired(oldest) {
+            return Some(oldest);
+        }
+        self.waiting
+            .lowest(kind, self.position(kind))
+            .or(Some(oldest))
     }
 
     /// The run that begins a new batch: a read, unless none is free or free writes were passed over often enough.
-    fn begun(&self, reads: Prospects, writes: Prospects) -> Option<Run>
-        ensures { result ≡ begun_found (settings_of self.now.settings) (state_of self.now) reads writes }
+    #[tactic(auto, unfolding(deadline::specs::Turn::new_batch))]
+    fn new_batch(&self) -> Option<Run>
+        ensures { result ≡ new_batch (settings_of self.now.settings) (state_of self.now) }
     {
-        let starving = writes.oldest.is_some() && self.settings.writes_starved <= self.passed_over;
-        if reads.oldest.is_some() && !starving {
-            self.first_found(reads)
+        let starving = self.settings.writes_starved <= self.passed_over
+            && self.waiting.has_free(Kind::Write);
+        if self.waiting.has_free(Kind::Read) && !starving {
+            self.first_of(Kind::Read)
         } else {
-            self.first_found(writes)
-        }
-    }
-
-    /// Batch, oldest ticket and free runs together say what the turn serves.
-    fn choice_from(&self, oldest: Queued, reads: Prospects, writes: Prospects) -> Choice
-        ensures { result ≡ by_oldest oldest.kind oldest.tag (next_found (settings_of self.now.settings) self.now.batch reads.lowest writes.lowest) (begun_found (settings_of self.now.settings) (state_of self.now) reads writes) }
-    {
-        match (oldest.kind, self.batch, reads.lowest, writes.lowest) {
-            (Kind::Flush, _, _, _) => Choice::PassesDown(oldest.tag),
-            (_, Batch::Reading(n), Some(r), _) if n < self.settings.fifo_batch => Choice::GoesOn(r),
-            (_, Batch::Writing(n), _, Some(r)) if n < self.settings.fifo_batch => Choice::GoesOn(r),
-            _ => match self.begun(reads, writes) {
-                Some(r) => Choice::BeginsWith(r),
-                None => Choice::Idle,
-            },
+            self.first_of(Kind::Write)
         }
     }
 
     /// What a turn at the latest tick serves.
-    pub(crate) fn decide(&self) -> Decision
-        ensures chosen { result.chosen ≡ choice (settings_of self.now.settings) (state_of self.now) self.now.waiting.items }
-        ensures writable { result.writable ≡ some_of (free_runs Write self.now.waiting.items) }
+    #[tactic(auto, unfolding(deadline::specs::Turn::choice))]
+    pub(crate) fn choice(&self) -> Choice
+        ensures { result ≡ choice (settings_of self.now.settings) (state_of self.now) self.now.waiting.tickets.items }
     {
-        let ws = self.waiting.as_slice();
-        let reads = prospects_of(ws, Kind::Read, self.read_position);
-        let writes = prospects_of(ws, Kind::Write, self.write_position);
-        let writable = writes.oldest.is_some();
-        let chosen = if ws.is_empty() {
-            Choice::Idle
-        } else {
-            self.choice_from(ws[0], reads, writes)
+        let Some(oldest) = self.waiting.tickets.first() else {
+            return Choice::Idle;
         };
-        Decision { chosen, writable }
+        if oldest.kind == Kind::Flush {
+            return Choice::PassesDown(oldest.tag);
+        }
+        if let Some(r) = self.next_of_batch() {
+            return Choice::GoesOn(r);
+        }
+        self.new_batch().map_or(Choice::Idle, Choice::BeginsWith)
     }
 }

@@ -1,102 +1,61 @@
 // Which waiting run a new ticket joins.
-ghost use Rattle.std.specs.Prelude.{◌≡◌};
-ghost use Rattle.deadline.specs.Waiting.{any, those, conflict as conflicting, runs};
-ghost use Rattle.deadline.specs.Joining.{past_flushes, has_room};
-ghost use Rattle.scheduler.specs.Bounds.{Bounded};
-ghost use Rattle.scheduler.specs.Found.{oldest_of};
-ghost use Rattle.scheduler.specs.Join.{joins, joined_at, run_named};
+ghost use Rattle.std.specs.Prelude.{◌≡◌, drop};
+ghost use Rattle.std.specs.List.{list_all, prefix_len};
+ghost use Rattle.deadline.specs.Settings.{settings_of};
+ghost use Rattle.deadline.specs.Waiting.{any, conflict as conflicting};
+ghost use Rattle.deadline.specs.Joining.{past_flushes, has_room, run_for};
+ghost use Rattle.scheduler.specs.Passes.{outside, no_flush};
 
-use crate::runs::{is_head, run_with};
-use crate::waiting::{conflict, is_flush, same_kind};
+use crate::free::{conflict, end, ends};
+use crate::state::Scheduler;
+use crate::waiting::Waiting;
 use deadline::{Queued, Run};
-use device::LONGEST_RUN;
+use device::{Kind, LONGEST_RUN};
 
-/// Whether x conflicts with a waiting ticket.
-fn conflicts(ws: &[Queued], x: Queued) -> bool
-    ensures { result ≡ any (conflicting x) ws.now }
-{
-    for y in ws {
-        if conflict(x, *y) {
-            return true;
+impl Waiting {
+    /// Whether x conflicts with a waiting ticket.
+    fn conflicts(&self, x: &Queued) -> bool
+        ensures { result ≡ any (conflicting x.now) self.now.tickets.items }
+    {
+        self.tickets.iter().any(|y| conflict(x, y))
+    }
+
+    /// Whether each ticket of the run is younger than every waiting flush.
+    fn is_past_flushes(&self, run: u32) -> bool
+        ensures { result ≡ list_all no_flush (drop 1 (drop (prefix_len (outside run) self.now.tickets.items) self.now.tickets.items)) }
+    {
+        self.tickets
+            .iter()
+            .skip_while(|x| x.head != run)
+            .skip(1)
+            .all(|x| x.kind != Kind::Flush)
+    }
+
+    /// Whether the run is of x's kind and has room for it, and no flush waits in or after the run.
+    #[tactic(auto, using(crate::proofs::Chains::past_flushes_is))]
+    fn has_room(&self, x: &Queued, r: &Run) -> bool
+        ensures { result ≡ has_room self.now.tickets.items x.now r.now }
+    {
+        r.kind == x.kind
+            && u64::from(r.count) + u64::from(x.count) <= u64::from(LONGEST_RUN)
+            && self.is_past_flushes(r.name)
+    }
+}
+
+impl Scheduler {
+    /// The name of the run that x belongs to: one that it joins at the end, else, with front merges, one that it joins in front of
+    /// the first sector, else its own.
+    pub(crate) fn run_for(&self, x: &Queued) -> u32
+        ensures { result ≡ run_for (settings_of self.now.settings) self.now.waiting.tickets.items x.now }
+    {
+        let ws = &self.waiting;
+        if ws.conflicts(x) {
+            return x.tag;
         }
-    }
-    false
-}
-
-/// Whether each ticket of the run is younger than every waiting flush.
-fn is_past_flushes(ws: &[Queued], run: u32) -> bool
-    ensures { result ≡ past_flushes run ws.now }
-{
-    let mut seen = false;
-    for x in ws {
-        if seen && is_flush(x.kind) {
-            return false;
-        }
-        seen = seen || x.head == run;
-    }
-    true
-}
-
-/// Whether the run is of x's kind and has room for it, and no flush waits in or after the run.
-fn has_place(ws: &[Queued], x: Queued, r: Run) -> bool
-    ensures { result ≡ has_room ws.now x r }
-{
-    same_kind(r.kind, x.kind)
-        && r.count as u64 + x.count as u64 <= LONGEST_RUN as u64
-        && is_past_flushes(ws, r.name)
-}
-
-/// Whether x can join the run on one side: at its end, or, with front merges, in front of its first sector.
-fn can_join(ws: &[Queued], x: Queued, front: bool, merges: bool, r: Run) -> bool
-    ensures { result ≡ joins front merges ws.now x r }
-{
-    if front {
-        has_place(ws, x, r) && merges && x.first as u64 + x.count as u64 == r.begins as u64
-    } else {
-        has_place(ws, x, r) && r.begins as u64 + r.count as u64 == x.first as u64
-    }
-}
-
-/// The run that y is the head of, if x can join it on that side.
-fn joinable_at(ws: &[Queued], x: Queued, front: bool, merges: bool, y: Queued) -> Option<Run>
-    requires { Bounded ws.now }
-    ensures { result ≡ joined_at front merges ws.now x y }
-{
-    if is_head(y) {
-        let r = run_with(ws, y);
-        if can_join(ws, x, front, merges, r) {
-            return Some(r);
-        }
-    }
-    None
-}
-
-/// The run with the oldest head that x can join on one side.
-fn first_joinable(ws: &[Queued], x: Queued, front: bool, merges: bool) -> Option<Run>
-    requires { Bounded ws.now }
-    ensures { result ≡ oldest_of (those (joins front merges ws.now x) (runs ws.now)) }
-{
-    for y in ws {
-        if let Some(r) = joinable_at(ws, x, front, merges, *y) {
-            return Some(r);
-        }
-    }
-    None
-}
-
-/// The name of the run that x belongs to: one that it joins, or its own.
-pub(crate) fn run_to_join(ws: &[Queued], x: Queued, merges: bool) -> u32
-    requires { Bounded ws.now }
-    ensures { result ≡ run_named merges ws.now x }
-{
-    if conflicts(ws, x) {
-        return x.tag;
-    }
-    let behind = first_joinable(ws, x, false, merges);
-    let in_front = first_joinable(ws, x, true, merges);
-    match (behind, in_front) {
-        (Some(r), _) => r.name,
-        (None, Some(r)) => r.name,
-        (None, None) => x.tag,
+        let behind = ws.first_run(|r| ws.has_room(x, r) && ends(r) == u64::from(x.first));
+        let in_front = ws.first_run(|r| {
+            ws.has_room(x, r) && self.settings.front_merges && end(x) == u64::from(r.begins)
+        });
+        behind.or(in_front).map_or(x.tag, |r| r.name)
     }
 }

@@ -1,9 +1,9 @@
 #![tactic(auto)]
 
 mod choose;
+mod free;
 mod join;
 mod questions;
-mod remove;
 mod runs;
 mod setup;
 mod state;
@@ -12,6 +12,7 @@ mod turn;
 mod waiting;
 
 pub use state::Scheduler;
+pub use waiting::Waiting;
 
 #[cfg(test)]
 mod tests;

@@ -4,21 +4,20 @@ ghost use Rattle.deadline.specs.Waiting.{has_tag};
 ghost use Rattle.scheduler.specs.Meaning.{state_of};
 
 use crate::state::Scheduler;
-use crate::waiting::holds_tag;
 
 impl Scheduler {
     /// Whether the ticket of a tag waits.
     pub fn waits(&self, tag: u32) -> bool
-        ensures { result ≡ has_tag tag self.now.waiting.items }
+        ensures { result ≡ has_tag tag self.now.waiting.tickets.items }
     {
-        holds_tag(self.waiting.as_slice(), tag)
+        self.waiting.holds_tag(tag)
     }
 
     /// How many tickets wait.
     pub fn waiting(&self) -> u32
-        ensures { result ≡ length self.now.waiting.items }
+        ensures { result ≡ length self.now.waiting.tickets.items }
     {
-        self.waiting.len() as u32
+        self.waiting.tickets.len() as u32
     }
 
     /// The latest tick that counted.

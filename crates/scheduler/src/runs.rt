@@ -1,115 +1,103 @@
 // The waiting runs: where each begins and ends, and which of the free ones a turn can serve.
-ghost use Rattle.std.specs.Prelude.{◌≡◌};
-ghost use Rattle.deadline.specs.Waiting.{is_head, lowest_sector, sectors, run_of, free_runs};
-ghost use Rattle.deadline.specs.Turn.{lowest};
-ghost use Rattle.scheduler.specs.Bounds.{Bounded};
-ghost use Rattle.scheduler.specs.Found.{oldest_of, headed_by, lower_of};
+ghost use Rattle.std.specs.Prelude.{◌≡◌, ◌&&◌, Bool, min, fold, map, sum};
+ghost use Rattle.std.specs.List.{filter};
+ghost use Rattle.std.specs.Iterator.{ActsAsAt};
+ghost use Rattle.deadline.specs.declared.dispatch.Run.{Run};
+ghost use Rattle.deadline.specs.Waiting.{is_in, is_head, runs, same, free, those, free_runs};
+ghost use Rattle.deadline.specs.Turn.{lowest, some_of};
+ghost use Rattle.scheduler.specs.Found.{oldest_of, run_at};
 
-use crate::waiting::{is_flush, is_free, same_kind};
+use crate::waiting::Waiting;
 use deadline::{Queued, Run};
 use device::Kind;
 
-/// The first sector of a run, of which a ticket begins at `start`.
-fn begins(ws: &[Queued], run: u32, start: u32) -> u32
-    ensures { result ≡ lowest_sector run start ws.now }
-{
-    let mut low = start;
-    for x in ws {
-        if x.head == run {
-            low = low.min(x.first);
-        }
-    }
-    low
-}
-
-/// The sectors of a run.
-fn count_of(ws: &[Queued], run: u32) -> u32
-    requires { Bounded ws.now }
-    ensures { result ≡ sectors run ws.now }
-{
-    let mut all = 0;
-    for x in ws {
-        if x.head == run {
-            all += x.count;
-        }
-    }
-    all
-}
-
-/// The run that x is the head of.
-pub(crate) fn run_with(ws: &[Queued], x: Queued) -> Run
-    requires { Bounded ws.now }
-    ensures { result ≡ run_of ws.now x }
-{
-    Run {
-        name: x.head,
-        kind: x.kind,
-        begins: begins(ws, x.head, x.first),
-        count: count_of(ws, x.head),
-        tick: x.tick,
-    }
-}
-
 /// Whether a ticket is the head of a run.
-pub(crate) fn is_head(x: Queued) -> bool
-    ensures { result ≡ is_head x }
+fn is_head(x: &Queued) -> bool
+    ensures { result ≡ is_head x.now }
 {
-    x.tag == x.head && !is_flush(x.kind)
+    x.tag == x.head && x.kind != Kind::Flush
 }
 
-/// The free run of a kind that x is the head of.
-fn headed(ws: &[Queued], kind: Kind, x: Queued) -> Option<Run>
-    requires { Bounded ws.now }
-    ensures { result ≡ headed_by kind ws.now x }
-{
-    if is_head(x) && same_kind(x.kind, kind) && is_free(ws, x.head) {
-        Some(run_with(ws, x))
-    } else {
-        None
+impl Waiting {
+    /// The first sector of a run, of which a ticket begins at `start`.
+    fn begins(&self, run: u32, start: u32) -> u32
+        ensures { result ≡ fold min start (map (λ x. x.first) (filter (is_in run) self.now.tickets.items)) }
+    {
+        self.tickets
+            .iter()
+            .filter(|x| x.head == run)
+            .map(|x| x.first)
+            .fold(start, |low, first| low.min(first))
     }
-}
 
-/// The lower of a run found before and a younger one; of two that begin at one sector, the older.
-fn lower_run(found: Option<Run>, r: Run) -> Option<Run>
-    ensures { result ≡ lower_of found r }
-{
-    match found {
-        None => Some(r),
-        Some(q) => {
-            if q.begins <= r.begins {
-                Some(q)
-            } else {
-                Some(r)
-            }
-        }
+    /// The sectors of a run.
+    fn count_of(&self, run: u32) -> u32
+        ensures { result ≡ sum (map (λ x. x.count) (filter (is_in run) self.now.tickets.items)) }
+    {
+        self.tickets
+            .iter()
+            .filter(|x| x.head == run)
+            .map(|x| x.count)
+            .sum()
     }
-}
 
-/// Of the free runs of one kind, the one with the oldest head, and the lowest at or past a position.
-#[derive(Clone, Copy)]
-pub(crate) struct Prospects {
-    pub(crate) oldest: Option<Run>,
-    pub(crate) lowest: Option<Run>,
-}
-
-/// What one pass over the waiting tickets finds of the free runs of a kind.
-pub(crate) fn prospects_of(ws: &[Queued], kind: Kind, position: u32) -> Prospects
-    requires { Bounded ws.now }
-    ensures oldest { result.oldest ≡ oldest_of (free_runs kind ws.now) }
-    ensures lowest { result.lowest ≡ lowest position (free_runs kind ws.now) }
-{
-    let mut first = None;
-    let mut low = None;
-    for x in ws {
-        if let Some(found) = headed(ws, kind, *x) {
-            first = first.or(Some(found));
-            if position <= found.begins {
-                low = lower_run(low, found);
-            }
-        }
+    /// The run that x is the head of, if it is the head of one.
+    #[tactic(auto, using(crate::proofs::Chains::lowest_sector_is, crate::proofs::Chains::sectors_is), unfolding(crate::specs::Found::run_at, deadline::specs::Waiting::run_of))]
+    fn run_at(&self, x: &Queued) -> Option<Run>
+        ensures { result ≡ run_at self.now.tickets.items x.now }
+    {
+        is_head(x).then(|| Run {
+            name: x.head,
+            kind: x.kind,
+            begins: self.begins(x.head, x.first),
+            count: self.count_of(x.head),
+            tick: x.tick,
+        })
     }
-    Prospects {
-        oldest: first,
-        lowest: low,
+
+    /// The run with the oldest head of those that pass a test.
+    pub(crate) fn first_run<F: FnMut(&Run) -> bool>(&self, passes: F) -> Option<Run>
+        requires { F.IsAlwaysCallable passes }
+        ensures { (p : Run → Bool) → ActsAsAt F.FnMut passes p → result ≡ oldest_of (those p (runs self.now.tickets.items)) }
+    {
+        self.tickets
+            .iter()
+            .filter_map(|x| self.run_at(x))
+            .find(passes)
+    }
+
+    /// Whether a run is of the kind, and free.
+    fn is_free_of(&self, kind: Kind, r: &Run) -> bool
+        ensures { result ≡ (same r.now.kind kind && free self.now.tickets.items r.now.name) }
+    {
+        r.kind == kind && self.is_free(r.name)
+    }
+
+    /// The free run of a kind with the oldest head.
+    #[tactic(auto, unfolding(deadline::specs::Waiting::free_runs))]
+    pub(crate) fn oldest(&self, kind: Kind) -> Option<Run>
+        ensures { result ≡ oldest_of (free_runs kind self.now.tickets.items) }
+    {
+        self.first_run(|r| self.is_free_of(kind, r))
+    }
+
+    /// Whether a run of the kind is free.
+    pub(crate) fn has_free(&self, kind: Kind) -> bool
+        ensures { result ≡ some_of (free_runs kind self.now.tickets.items) }
+    {
+        self.oldest(kind).is_some()
+    }
+
+    /// The lowest free run of a kind at or past a position; of two that begin at one sector, the one with the older head.
+    // Its chain begins as that of `first_run`: Rattle proves no function that returns an `impl Iterator`, so the two share none.
+    pub(crate) fn lowest(&self, kind: Kind, position: u32) -> Option<Run>
+        ensures { result ≡ lowest position (free_runs kind self.now.tickets.items) }
+    {
+        self.tickets
+            .iter()
+            .filter_map(|x| self.run_at(x))
+            .filter(|r| self.is_free_of(kind, r))
+            .filter(|r| position <= r.begins)
+            .min_by_key(|r| r.begins)
     }
 }

@@ -4,8 +4,8 @@ ghost use Rattle.deadline.specs.Turn.{set_up};
 ghost use Rattle.scheduler.specs.Meaning.{state_of};
 
 use crate::state::Scheduler;
+use crate::waiting::Waiting;
 use deadline::{Batch, Settings};
-use device::MOST_TICKETS;
 use std::alloc::{AllocError, Global};
 
 impl Scheduler {
@@ -13,7 +13,7 @@ impl Scheduler {
     pub fn new(heap: Global, settings: Settings) -> Result<Scheduler, AllocError>
         ensures { IfOk result (λ s. (state_of s ≡ set_up) × (s.settings ≡ settings)) }
     {
-        let waiting = Vec::with_capacity(heap, MOST_TICKETS as usize)?;
+        let waiting = Waiting::new(heap)?;
         Ok(Scheduler {
             settings,
             latest: 0,

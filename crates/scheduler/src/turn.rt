@@ -8,7 +8,6 @@ ghost use Rattle.scheduler.specs.Allowed.{Allowed, Short};
 ghost use Rattle.scheduler.specs.Bounds.{served};
 ghost use Rattle.scheduler.specs.Meaning.{state_of};
 
-use crate::remove::take_out;
 use crate::state::Scheduler;
 use deadline::{Batch, Choice, Run};
 use device::Kind;
@@ -36,26 +35,22 @@ fn opened_by(kind: Kind) -> Batch
     }
 }
 
-/// How many read batches passed free writes over, once a batch of the kind has begun.
-fn passed_after(kind: Kind, writable: bool, passed: u32) -> u32
-    requires { passed_over_by kind writable passed ≤ 16 }
-    ensures { result ≡ passed_over_by kind writable passed }
-{
-    match (kind, writable) {
-        (Kind::Read, true) => passed + 1,
-        (Kind::Read, false) => passed,
-        (Kind::Write, _) => 0,
-        (Kind::Flush, _) => passed,
-    }
-}
-
 impl Scheduler {
+    /// How many read batches passed free writes over, once a batch of the kind has begun.
+    fn passed_after(&self, kind: Kind) -> u32
+        ensures { result ≡ passed_over_by kind (some_of (free_runs Write self.now.waiting.tickets.items)) self.now.passed_over }
+    {
+        match kind {
+            Kind::Read if self.waiting.has_free(Kind::Write) => self.passed_over + 1,
+            Kind::Write => 0,
+            Kind::Read | Kind::Flush => self.passed_over,
+        }
+    }
+
     /// The run is served: its kind's position is its end, and its tickets wait no more.
-    fn serve(&mut self, r: Run, batch: Batch, passed: u32)
-        requires short { Short r }
-        requires count { served batch ≤ 64 }
-        requires passed { passed ≤ 16 }
-        ensures state { state_of self.new ≡ serving (state_of self.old) r batch passed }
+    fn serve(&mut self, r: Run)
+        requires { Short r }
+        ensures state { state_of self.new ≡ serving (state_of self.old) r self.old.batch self.old.passed_over }
         ensures settings { self.new.settings ≡ self.old.settings }
     {
         let end = r.begins + r.count;
@@ -64,15 +59,13 @@ impl Scheduler {
             Kind::Write => self.write_position = end,
             Kind::Flush => {}
         }
-        self.batch = batch;
-        self.passed_over = passed;
-        take_out(&mut self.waiting, r.name);
+        self.waiting.take_out(r.name);
     }
 
     /// What is served waits no more, and the batch, the positions and the count of read batches follow.
-    fn apply(&mut self, choice: Choice, writable: bool)
-        requires allowed { Allowed (settings_of self.old.settings) (state_of self.old) writable choice }
-        requires writable { writable ≡ some_of (free_runs Write self.old.waiting.items) }
+    #[tactic(auto, unfolding(deadline::specs::Turn::after))]
+    fn apply(&mut self, choice: Choice)
+        requires { Allowed (settings_of self.old.settings) (state_of self.old) (some_of (free_runs Write self.old.waiting.tickets.items)) choice }
         ensures state { state_of self.new ≡ after (state_of self.old) choice }
         ensures settings { self.new.settings ≡ self.old.settings }
     {
@@ -80,28 +73,33 @@ impl Scheduler {
             Choice::Idle => {}
             Choice::PassesDown(tag) => {
                 self.batch = Batch::Closed;
-                take_out(&mut self.waiting, tag);
+                self.waiting.take_out(tag);
             }
-            Choice::GoesOn(r) => self.serve(r, with_one_more(self.batch), self.passed_over),
+            Choice::GoesOn(r) => {
+                self.batch = with_one_more(self.batch);
+                self.serve(r);
+            }
             Choice::BeginsWith(r) => {
-                let passed = passed_after(r.kind, writable, self.passed_over);
-                self.serve(r, opened_by(r.kind), passed)
+                self.passed_over = self.passed_after(r.kind);
+                self.batch = opened_by(r.kind);
+                self.serve(r);
             }
         }
     }
 
     /// Serves what the rules choose at the later of the latest tick and this one, and answers which.
+    #[tactic(auto, unfolding(deadline::specs::Turn::turned, deadline::specs::Turn::chosen, deadline::specs::Turn::choice))]
     pub fn turn(&mut self, tick: u32) -> Choice
         ensures state { state_of self.new ≡ turned (settings_of self.old.settings) (state_of self.old) tick }
         ensures chosen { result ≡ chosen (settings_of self.old.settings) (state_of self.old) tick }
         ensures settings { self.new.settings ≡ self.old.settings }
     {
-        if self.waiting.is_empty() {
+        if self.waiting.tickets.is_empty() {
             return Choice::Idle;
         }
         self.latest = self.latest.max(tick);
-        let decision = self.decide();
-        self.apply(decision.chosen, decision.writable);
-        decision.chosen
+        let choice = self.choice();
+        self.apply(choice);
+        choice
     }
 }

@@ -1,113 +1,66 @@
-// Questions on the waiting tickets, in order of acceptance. Each answers what a definition of the deadline rules says.
-ghost use Rattle.std.specs.Prelude.{◌≡◌, not, ◌&&◌, []};
-ghost use Rattle.device.specs.Meaning.{is_write, is_flush};
-ghost use Rattle.deadline.specs.Waiting.{any, conflict as conflicting, same, is_in, unhindered, before_flushes, free, has_tag};
+// The waiting tickets.
+ghost use Rattle.std.specs.Prelude.{◌≡◌, ◌<◌, ◌≤◌, ◌++◌, [], ◌∷◌, IfOk, length, vec_capacity};
+ghost use Rattle.device.specs.Sound.{most_sectors, most_tickets};
+ghost use Rattle.deadline.specs.Waiting.{end, has_tag};
+ghost use Rattle.deadline.specs.Turn.{without};
+ghost use Rattle.scheduler.specs.Bounds.{Bounded};
+ghost use Rattle.scheduler.specs.Places.{place_for};
 
 use deadline::Queued;
-use device::Kind;
+use device::{Cause, MOST_SECTORS, MOST_TICKETS};
+use std::alloc::{AllocError, Global};
 
-/// Whether the kind is a write.
-fn is_write(kind: Kind) -> bool
-    ensures { result ≡ is_write kind }
-{
-    match kind {
-        Kind::Write => true,
-        Kind::Read | Kind::Flush => false,
-    }
+/// The waiting tickets in order of acceptance, the oldest first: no more than a device may have open, each within the sectors that
+/// it may have.
+#[derive(Drop)]
+pub struct Waiting {
+    pub tickets: Vec<Queued>,
+    ghost bounded: { Bounded tickets.items },
+    ghost reserved: { most_tickets ≤ vec_capacity tickets },
 }
 
-/// Whether the kind is a flush.
-pub(crate) fn is_flush(kind: Kind) -> bool
-    ensures { result ≡ is_flush kind }
-{
-    match kind {
-        Kind::Flush => true,
-        Kind::Read | Kind::Write => false,
+impl Waiting {
+    /// No tickets, with room for as many as a device may have open.
+    pub(crate) fn new(heap: Global) -> Result<Waiting, AllocError>
+        ensures { IfOk result (λ ws. ws.tickets.items ≡ []) }
+    {
+        let tickets = Vec::with_capacity(heap, MOST_TICKETS as usize)?;
+        Ok(Waiting { tickets })
     }
-}
 
-/// Whether two kinds are the same.
-pub(crate) fn same_kind(a: Kind, b: Kind) -> bool
-    ensures { result ≡ same a b }
-{
-    match (a, b) {
-        (Kind::Read, Kind::Read) => true,
-        (Kind::Write, Kind::Write) => true,
-        (Kind::Flush, Kind::Flush) => true,
-        _ => false,
+    /// Whether a ticket of the tag waits.
+    pub(crate) fn holds_tag(&self, tag: u32) -> bool
+        ensures { result ≡ has_tag tag self.now.tickets.items }
+    {
+        self.tickets.iter().any(|x| x.tag == tag)
     }
-}
 
-/// Whether a ticket of the tag waits.
-pub(crate) fn holds_tag(ws: &[Queued], tag: u32) -> bool
-    ensures { result ≡ has_tag tag ws.now }
-{
-    for x in ws {
-        if x.tag == tag {
-            return true;
+    /// Whether there is a place for `count` sectors from `first` on, or why there is none.
+    pub(crate) fn place_for(&self, first: u32, count: u32) -> Result<(), Cause>
+        ensures { result ≡ place_for self.now.tickets.items first count }
+    {
+        if first as usize + count as usize > MOST_SECTORS {
+            return Err(Cause::PastEnd);
         }
-    }
-    false
-}
-
-/// Whether two tickets share a sector, of which at least one writes.
-pub(crate) fn conflict(x: Queued, y: Queued) -> bool
-    ensures { result ≡ conflicting x y }
-{
-    (x.first as u64) < y.first as u64 + y.count as u64
-        && (y.first as u64) < x.first as u64 + x.count as u64
-        && (is_write(x.kind) || is_write(y.kind))
-}
-
-/// Whether y is outside the run and conflicts with x.
-fn hinders(run: u32, x: Queued, y: Queued) -> bool
-    ensures { result ≡ (not (is_in run y) && conflicting x y) }
-{
-    y.head != run && conflict(x, y)
-}
-
-/// Whether one of the older tickets is outside the run and conflicts with x.
-fn any_hinders(older: &[Queued], run: u32, x: Queued) -> bool
-    ensures { result ≡ any (λ y. not (is_in run y) && conflicting x y) older.now }
-{
-    for y in older {
-        if hinders(run, x, *y) {
-            return true;
+        if self.tickets.len() >= MOST_TICKETS as usize {
+            return Err(Cause::Full);
         }
+        Ok(())
     }
-    false
-}
 
-/// Whether none of the run's tickets conflicts with an older waiting ticket outside it.
-fn is_unhindered(ws: &[Queued], run: u32) -> bool
-    ensures { result ≡ unhindered run [] ws.now }
-{
-    for (i, x) in ws.iter().enumerate() {
-        if x.head == run && any_hinders(&ws[0..i], run, *x) {
-            return false;
-        }
+    /// Puts a ticket behind the others.
+    pub(crate) fn push(&mut self, x: Queued)
+        requires place { length self.old.tickets.items < most_tickets }
+        requires within { end x ≤ most_sectors }
+        ensures { self.new.tickets.items ≡ self.old.tickets.items ++ (x ∷ []) }
+    {
+        self.tickets.push_reserved(x);
     }
-    true
-}
 
-/// Whether no waiting flush is older than the run's head.
-fn is_before_flushes(ws: &[Queued], run: u32) -> bool
-    ensures { result ≡ before_flushes run ws.now }
-{
-    for x in ws {
-        if x.head == run {
-            return true;
-        }
-        if is_flush(x.kind) {
-            return false;
-        }
+    /// Takes the tickets of a run out; the others keep their order.
+    pub(crate) fn take_out(&mut self, run: u32)
+        ensures { self.new.tickets.items ≡ without run self.old.tickets.items }
+    {
+        self.tickets.retain(|x| x.head != run);
     }
-    true
-}
-
-/// Whether the run is free: nothing that waits has to be served before it.
-pub(crate) fn is_free(ws: &[Queued], run: u32) -> bool
-    ensures { result ≡ free ws.now run }
-{
-    is_unhindered(ws, run) && is_before_flushes(ws, run)
 }

@@ -1,43 +1,28 @@
-use Rattle.std.proofs.Common.{◌≡◌, min, length, ap, ◌∙◌}
-use Rattle.queue.proofs.Served.{given_is, serves_all, calls_all, never_refused}
+use Rattle.std.proofs.Common.{◌≡◌, take, arith}
+use Rattle.std.proofs.lemmas.List.{take_min}
+use Rattle.queue.specs.Serve.{sent, Tried}
+use Rattle.queue.proofs.Served.{serves_tried, calls_tried}
 use Rattle.queue.proofs.serve.serve_below.Goals as goal
 
-pub returns-in-Ok : goal.returns-in-Ok
-returns-in-Ok g c =
+pub returns : goal.returns
+returns g c =
     let k = c.args.kind in
-    let buffer = c.args.buffer.now in
-    let e : c.min-given.result ≡ _ = c.min-given.ensures ∙ ap (λ n. min n (length buffer)) c.data_length.ensures in
-    record {
-      keeps = λ h. c.collect.ensures.keeps (c.turn-ticks.ensures.keeps (c.submit.ensures.keeps h));
-      serves = λ h s room.
-          let h₁ = c.submit.ensures.keeps h in
-          let h₂ = c.turn-ticks.ensures.keeps h₁ in
-          serves_all g.D.Device.meaning g.D.Device.does _ _ _ _ k c.args.first c.args.count _ c.args.tick _ buffer _ _ _ _ s room c.number.ensures (given_is k c.args.count c.min-given.result buffer e room)
-          (c.submit.ensures.answers h) (c.submit.ensures.leaves h) (c.turn-ticks.ensures.turns h₁) (c.collect.ensures.leaves h₂) (c.collect.ensures.hands h₂) (c.collect.ensures.answers h₂)
-          c.in-Ok.mask c.in-Ok.is;
-      calls = λ h s room.
-          let h₁ = c.submit.ensures.keeps h in
-          let h₂ = c.turn-ticks.ensures.keeps h₁ in
-          calls_all g.D.Device.meaning g.D.Device.does _ _ _ _ k c.args.first c.args.count _ c.args.tick _ buffer _ _ _ _ s room c.number.ensures (given_is k c.args.count c.min-given.result buffer e room)
-          (c.submit.ensures.answers h) (c.submit.ensures.leaves h) (c.turn-ticks.ensures.turns h₁) (c.collect.ensures.leaves h₂) (c.collect.ensures.hands h₂) (c.collect.ensures.answers h₂)
-          c.in-Ok.mask c.in-Ok.is (c.submit.ensures.did h) (c.turn-ticks.ensures.did h₁) (c.collect.ensures.did h₂);
-    }
-
-pub returns-in-Err : goal.returns-in-Err
-returns-in-Err g c =
-    let k = c.args.kind in
-    let buffer = c.args.buffer.now in
-    let e : c.min-given.result ≡ _ = c.min-given.ensures ∙ ap (λ n. min n (length buffer)) c.data_length.ensures in
-    record {
-      keeps = λ h. c.collect.ensures.keeps (c.turn-ticks.ensures.keeps (c.submit.ensures.keeps h));
-      serves = λ h s room.
-          let h₁ = c.submit.ensures.keeps h in
-          let h₂ = c.turn-ticks.ensures.keeps h₁ in
-          absurd (never_refused g.D.Device.meaning g.D.Device.does _ _ _ _ k c.args.first c.args.count _ c.args.tick _ buffer _ _ _ _ s room c.number.ensures (given_is k c.args.count c.min-given.result buffer e room)
-          (c.submit.ensures.answers h) (c.submit.ensures.leaves h) (c.turn-ticks.ensures.turns h₁) (c.collect.ensures.leaves h₂) (c.collect.ensures.hands h₂) (c.collect.ensures.answers h₂) _ c.in-Err.is);
-      calls = λ h s room.
-          let h₁ = c.submit.ensures.keeps h in
-          let h₂ = c.turn-ticks.ensures.keeps h₁ in
-          absurd (never_refused g.D.Device.meaning g.D.Device.does _ _ _ _ k c.args.first c.args.count _ c.args.tick _ buffer _ _ _ _ s room c.number.ensures (given_is k c.args.count c.min-given.result buffer e room)
-          (c.submit.ensures.answers h) (c.submit.ensures.leaves h) (c.turn-ticks.ensures.turns h₁) (c.collect.ensures.leaves h₂) (c.collect.ensures.hands h₂) (c.collect.ensures.answers h₂) _ c.in-Err.is);
-    }
+    let before = c.args.buffer.now in
+    let given : take c.min-given.result before ≡ sent k c.args.count before = grind (arith, take_min) in
+    let tried : Tried g.D.Device.meaning g.D.Device.does c.args.below.now c.collect.new.self k c.args.first c.args.count before c.collect.new.buffer c.args.tick c.turn-ticks.result c.unwrap_or-mask.result = record {
+      entered = c.submit.new.self;
+      turned = c.turn-ticks.new.self;
+      accepts = c.submit.result;
+      gives = c.collect.result;
+      submit_answers = rw (c.from.ensures, given) at c.submit.ensures.answers;
+      submit_leaves = rw (c.from.ensures, given) at c.submit.ensures.leaves;
+      submits = rw (c.from.ensures, given) at c.submit.ensures.did;
+      turn_leaves = c.turn-ticks.ensures.turns;
+      turns = c.turn-ticks.ensures.did;
+      collect_answers = c.collect.ensures.answers;
+      collect_hands = c.collect.ensures.hands;
+      collect_leaves = c.collect.ensures.leaves;
+      collects = c.collect.ensures.did;
+      mask_or_none = c.unwrap_or-mask.ensures;
+    } in
+    record { tries = tried; serves = serves_tried tried; calls = calls_tried tried }
