@@ -9,27 +9,16 @@ mod stacks;
 mod words;
 mod wrong;
 
-use script::{Stack, read, text_of};
-use stacks::{on_drive, on_memory, on_mirror, on_offset};
+use script::{Script, text_of};
+use stacks::transcript;
 use std::io::Read;
 
-fn run(rt: &HostRuntime) -> anyhow::Result<()> {
+fn main(rt: HostRuntime) -> anyhow::Result<()> {
     let heap = rt.alloc();
     let mut input = Vec::new(heap);
     rt.stdin().read_to_end(&mut input)?;
     let text = text_of(heap, input.as_slice())?;
-    let script = read(heap, text.as_str())?;
-    let mut out = String::new(heap);
-    match script.stack {
-        Stack::Memory => on_memory(heap, script, &mut out)?,
-        Stack::Drive => on_drive(heap, script, &mut out)?,
-        Stack::Offset => on_offset(heap, script, &mut out)?,
-        Stack::Mirror => on_mirror(heap, script, &mut out)?,
-    }
-    rt.print(out)?;
+    let script = Script::read(heap, text.as_str())?;
+    rt.print(transcript(heap, script)?)?;
     Ok(())
-}
-
-fn main(rt: HostRuntime) -> anyhow::Result<()> {
-    run(&rt)
 }

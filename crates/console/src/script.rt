@@ -1,68 +1,49 @@
-// A script: the stack that it chooses, its calls as one list, and its lines in order.
+// A script: the stack that it chooses, its calls as one list, and its commands in order.
 use crate::command::call_of;
-use crate::wrong::{Problem, Wrong};
+use crate::stacks::Stack;
+use crate::words::words_of;
+use crate::wrong::{Complaint, Wrong};
 use history::Call;
 use std::alloc::{AllocError, Global};
 
-/// The stacks that the console can build.
-#[derive(Clone, Copy)]
-pub(crate) enum Stack {
-    Memory,
-    Drive,
-    Offset,
-    Mirror,
-}
-
-/// What a line of the script gave: the next call of the list, or a complaint.
-#[derive(Clone, Copy)]
-pub(crate) enum Line {
-    Call,
-    Wrong { number: usize, wrong: Wrong },
-}
-
+/// A script: `lines` has a complaint for a command that is wrong, and `Ok` for the next call of the list.
 #[derive(Drop)]
 pub(crate) struct Script {
     pub(crate) stack: Stack,
     pub(crate) calls: Vec<Call>,
-    pub(crate) lines: Vec<Line>,
+    // Beside the calls, which go to `send_all` as one list of their own, so that its promise holds of the whole script.
+    pub(crate) lines: Vec<Result<(), Complaint>>,
 }
 
 /// The text of the input. Commands are ASCII, so any other byte stands in a comment or spoils its line all the same.
 pub(crate) fn text_of(heap: Global, input: &[u8]) -> Result<String, AllocError> {
-    let mut text = String::new(heap);
-    for b in input {
-        let c = if b.is_ascii() { char::from(*b) } else { '?' };
-        text.push(c)?;
-    }
-    Ok(text)
+    input
+        .iter()
+        .map(|b| if b.is_ascii() { char::from(*b) } else { '?' })
+        .collect(heap)
 }
 
-/// The stack that the words of a `stack` command name.
-fn stack_of(words: &[&str]) -> Result<Stack, Wrong> {
-    let [name] = words else {
-        return Err(Wrong::Words);
-    };
-    match *name {
-        "memory" => Ok(Stack::Memory),
-        "drive" => Ok(Stack::Drive),
-        "offset" => Ok(Stack::Offset),
-        "mirror" => Ok(Stack::Mirror),
-        _ => Err(Wrong::StackName),
-    }
+/// Whether a line is neither blank nor begins with `#`.
+fn is_command(line: &str) -> bool {
+    !line.starts_with('#') && !line.trim().is_empty()
 }
 
 impl Script {
-    fn new(heap: Global) -> Script {
-        Script {
-            stack: Stack::Memory,
+    /// Reads a script. Blank lines and lines that begin with `#` are passed over.
+    pub(crate) fn read(heap: Global, text: &str) -> Result<Script, AllocError> {
+        let mut script = Script {
+            stack: Stack::default(),
             calls: Vec::new(heap),
             lines: Vec::new(heap),
+        };
+        let mut commands = (1..).zip(text.lines()).filter(|(_, line)| is_command(line));
+        if let Some((number, line)) = commands.next() {
+            script.take_first(heap, number, &words_of(heap, line)?)?;
         }
-    }
-
-    fn complain(&mut self, number: usize, wrong: Wrong) -> Result<(), AllocError> {
-        self.lines.push(Line::Wrong { number, wrong })?;
-        Ok(())
+        for (number, line) in commands {
+            script.take(heap, number, &words_of(heap, line)?)?;
+        }
+        Ok(script)
     }
 
     /// Takes the first command, which may choose the stack.
@@ -70,60 +51,29 @@ impl Script {
         &mut self,
         heap: Global,
         number: usize,
-        name: &str,
         words: &[&str],
     ) -> Result<(), AllocError> {
-        if name != "stack" {
-            return self.take(heap, number, name, words);
+        let stack = match words {
+            ["stack", name] => name.parse(),
+            ["stack", ..] => Err(Wrong::Words),
+            _ => return self.take(heap, number, words),
+        };
+        match stack {
+            Ok(stack) => self.stack = stack,
+            Err(wrong) => self.lines.push(Err(Complaint { number, wrong }))?,
         }
-        match stack_of(words) {
-            Ok(stack) => {
-                self.stack = stack;
-                Ok(())
-            }
-            Err(wrong) => self.complain(number, wrong),
-        }
+        Ok(())
     }
 
     /// Takes a command: a call, or a complaint.
-    fn take(
-        &mut self,
-        heap: Global,
-        number: usize,
-        name: &str,
-        words: &[&str],
-    ) -> Result<(), AllocError> {
-        match call_of(heap, name, words) {
+    fn take(&mut self, heap: Global, number: usize, words: &[&str]) -> Result<(), AllocError> {
+        match call_of(heap, words) {
             Ok(call) => {
                 self.calls.push(call)?;
-                self.lines.push(Line::Call)?;
-                Ok(())
+                self.lines.push(Ok(()))?;
             }
-            Err(Problem::Line(wrong)) => self.complain(number, wrong),
-            Err(Problem::Memory) => Err(AllocError),
+            Err(problem) => self.lines.push(Err(problem.at(number)?))?,
         }
+        Ok(())
     }
-}
-
-/// Reads a script. Blank lines and lines that begin with `#` are passed over.
-pub(crate) fn read(heap: Global, text: &str) -> Result<Script, AllocError> {
-    let mut script = Script::new(heap);
-    let mut first = true;
-    for (i, line) in text.lines().enumerate() {
-        let words: Vec<&str> = line.split_whitespace().collect(heap)?;
-        let Some((name, rest)) = words.as_slice().split_first() else {
-            continue;
-        };
-        if line.starts_with('#') {
-            continue;
-        }
-        let number = i.saturating_add(1);
-        if first {
-            first = false;
-            script.take_first(heap, number, name, rest)?;
-        } else {
-            script.take(heap, number, name, rest)?;
-        }
-    }
-    Ok(script)
 }

@@ -1,162 +1,141 @@
 // What the console prints of each answer.
-use crate::script::Line;
-use device::{Fault, Home, Refusal, State};
+ghost use Rattle.std.specs.Iterator.{IsFinite};
+
+use device::Device;
 use history::{Event, OpenTicket};
-use std::alloc::AllocError;
+use std::fmt;
 
-/// Bytes, one run of equal ones after the other.
-pub(crate) fn show_bytes(out: &mut String, bytes: &[u8]) -> Result<(), AllocError> {
-    let Some(first) = bytes.first() else {
-        return out.push_str("none");
+/// Writes the items of a list, `between` between two of them, or that there is none.
+fn write_list<W: fmt::Write, I: Iterator + Drop>(
+    f: &mut fmt::Formatter<W>,
+    mut items: I,
+    between: &str,
+) -> fmt::Result
+where
+    I::Item: fmt::Display + Drop,
+    requires can { I.can_next items }
+    requires ends { IsFinite (I.remaining items) }
+{
+    let Some(first) = items.next() else {
+        return f.write_str("none");
     };
-    let mut value = *first;
-    let mut count = 0usize;
-    for b in bytes {
-        if *b == value {
-            count = count.saturating_add(1);
-        } else {
-            write!(out, "{value}x{count} ")?;
-            value = *b;
-            count = 1;
-        }
-    }
-    write!(out, "{value}x{count}")
-}
-
-fn show_refusal(out: &mut String, refusal: Refusal) -> Result<(), AllocError> {
-    let number = refusal.cause.number();
-    let height = refusal.height;
-    write!(out, "refused {number} at height {height}")
-}
-
-fn show_submitted(
-    out: &mut String,
-    tag: u32,
-    answer: Result<(), Refusal>,
-) -> Result<(), AllocError> {
-    write!(out, "submit {tag}: ")?;
-    match answer {
-        Ok(()) => out.push_str("accepted"),
-        Err(refusal) => show_refusal(out, refusal),
-    }
-}
-
-fn show_collected(
-    out: &mut String,
-    tag: u32,
-    answer: Result<u8, Refusal>,
-    buffer: &[u8],
-) -> Result<(), AllocError> {
-    write!(out, "collect {tag}: ")?;
-    match answer {
-        Ok(mask) => {
-            write!(out, "mask {mask}, buffer ")?;
-            show_bytes(out, buffer)
-        }
-        Err(refusal) => show_refusal(out, refusal),
-    }
-}
-
-fn show_open(out: &mut String, tickets: &[OpenTicket]) -> Result<(), AllocError> {
-    out.push_str("open: ")?;
-    if tickets.is_empty() {
-        return out.push_str("none");
-    }
-    for (i, ticket) in tickets.iter().enumerate() {
-        if i > 0 {
-            out.push_str(", ")?;
-        }
-        let tag = ticket.tag;
-        let state = match ticket.state {
-            State::NotOpen => "not open",
-            State::Waiting => "waiting",
-            State::Ready => "ready",
-        };
-        write!(out, "{tag} {state}")?;
+    write!(f, "{first}")?;
+    for item in items {
+        write!(f, "{between}{item}")?;
     }
     Ok(())
 }
 
-fn show_home(out: &mut String, sector: u32, home: Option<Home>) -> Result<(), AllocError> {
-    write!(out, "home {sector}: ")?;
-    match home {
-        Some(Home { height, sector }) => write!(out, "height {height}, sector {sector}"),
-        None => out.push_str("none"),
+/// A run of equal bytes.
+#[derive(Clone, Copy)]
+struct Run<'a>(&'a [u8]);
+
+impl fmt::Display for Run<'_> {
+    fn fmt<W: fmt::Write>(&self, f: &mut fmt::Formatter<W>) -> fmt::Result {
+        self.0
+            .first()
+            .map_or(Ok(()), |b| write!(f, "{b}x{}", self.0.len()))
     }
 }
 
-fn show_fault(out: &mut String, fault: Option<Fault>) -> Result<(), AllocError> {
-    let Some(Fault { lowest, bad }) = fault else {
-        return out.push_str("fault: none");
-    };
-    write!(out, "fault: {bad} bad, first ")?;
-    match lowest {
-        Some(Home { height, sector }) => write!(out, "at height {height}, sector {sector}"),
-        None => out.push_str("beyond the end"),
+/// Bytes, as their runs.
+#[derive(Clone, Copy)]
+pub(crate) struct Bytes<'a>(pub(crate) &'a [u8]);
+
+impl fmt::Display for Bytes<'_> {
+    fn fmt<W: fmt::Write>(&self, f: &mut fmt::Formatter<W>) -> fmt::Result {
+        write_list(f, self.0.chunk_by(|a, b| a == b).map(Run), " ")
     }
 }
 
-fn show_event(out: &mut String, event: &Event) -> Result<(), AllocError> {
-    match event {
-        Event::Submitted {
-            request,
-            answer,
-            ..
-        } => show_submitted(out, request.tag, *answer),
-        Event::Turned { ticks, .. } => write!(out, "turn: {ticks} ticks"),
-        Event::Collected {
-            tag,
-            answer,
-            buffer,
-            ..
-        } => show_collected(out, *tag, *answer, buffer.as_slice()),
-        Event::Opened { tickets } => show_open(out, tickets.as_slice()),
-        Event::Homed { sector, home } => show_home(out, *sector, *home),
-        Event::Faulted { fault, .. } => show_fault(out, *fault),
+/// An open ticket.
+#[derive(Clone, Copy)]
+struct Ticket(OpenTicket);
+
+impl fmt::Display for Ticket {
+    fn fmt<W: fmt::Write>(&self, f: &mut fmt::Formatter<W>) -> fmt::Result {
+        write!(f, "{} {}", self.0.tag, self.0.state)
     }
 }
 
-/// The answers and the complaints, in the order of the script's lines.
-pub(crate) fn show_lines(
-    out: &mut String,
-    lines: &[Line],
-    log: &[Event],
-) -> Result<(), AllocError> {
-    let mut next = 0usize;
-    for line in lines {
-        match line {
-            Line::Call => {
-                if let Some(event) = log.get(next) {
-                    show_event(out, event)?;
-                }
-                next = next.saturating_add(1);
-            }
-            Line::Wrong { number, wrong } => {
-                let text = wrong.text();
-                write!(out, "line {number}: {text}")?;
-            }
+/// Open tickets, the oldest first.
+#[derive(Clone, Copy)]
+struct Tickets<'a>(&'a [OpenTicket]);
+
+impl fmt::Display for Tickets<'_> {
+    fn fmt<W: fmt::Write>(&self, f: &mut fmt::Formatter<W>) -> fmt::Result {
+        write_list(f, self.0.iter().copied().map(Ticket), ", ")
+    }
+}
+
+/// A call with what the device answered.
+#[derive(Clone, Copy)]
+pub(crate) struct Answered<'a>(pub(crate) &'a Event);
+
+impl fmt::Display for Answered<'_> {
+    fn fmt<W: fmt::Write>(&self, f: &mut fmt::Formatter<W>) -> fmt::Result {
+        match self.0 {
+            Event::Submitted {
+                request,
+                answer: Ok(()),
+                ..
+            } => write!(f, "submit {}: accepted", request.tag),
+            Event::Submitted {
+                request,
+                answer: Err(refusal),
+                ..
+            } => write!(f, "submit {}: {refusal}", request.tag),
+            Event::Turned { ticks, .. } => write!(f, "turn: {ticks} ticks"),
+            Event::Collected {
+                tag,
+                answer: Ok(mask),
+                buffer,
+                ..
+            } => write!(f, "collect {tag}: mask {mask}, buffer {}", Bytes(buffer)),
+            Event::Collected {
+                tag,
+                answer: Err(refusal),
+                ..
+            } => write!(f, "collect {tag}: {refusal}"),
+            Event::Opened { tickets } => write!(f, "open: {}", Tickets(tickets)),
+            Event::Homed {
+                sector,
+                home: Some(home),
+            } => write!(f, "home {sector}: {home}"),
+            Event::Homed { sector, home: None } => write!(f, "home {sector}: none"),
+            Event::Faulted {
+                fault: Some(fault),
+                ..
+            } => write!(f, "fault: {fault}"),
+            Event::Faulted { fault: None, .. } => f.write_str("fault: none"),
         }
-        out.push_str("\n")?;
     }
-    Ok(())
 }
 
-/// The shape of the stack.
-pub(crate) fn show_stack(
-    out: &mut String,
+/// The shape of a stack.
+#[derive(Clone, Copy)]
+pub(crate) struct Shape {
     size: u32,
     capacity: u32,
     height: u8,
-) -> Result<(), AllocError> {
-    writeln!(
-        out,
-        "stack: size {size}, capacity {capacity}, height {height}"
-    )
 }
 
-/// A bottom memory, whole.
-pub(crate) fn show_medium(out: &mut String, number: usize, bytes: &[u8]) -> Result<(), AllocError> {
-    write!(out, "medium {number}: ")?;
-    show_bytes(out, bytes)?;
-    out.push_str("\n")
+impl Shape {
+    pub(crate) fn of<D: Device>(device: &D) -> Shape {
+        Shape {
+            size: device.size(),
+            capacity: device.capacity(),
+            height: device.height(),
+        }
+    }
+}
+
+impl fmt::Display for Shape {
+    fn fmt<W: fmt::Write>(&self, f: &mut fmt::Formatter<W>) -> fmt::Result {
+        write!(
+            f,
+            "stack: size {}, capacity {}, height {}",
+            self.size, self.capacity, self.height
+        )
+    }
 }

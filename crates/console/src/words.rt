@@ -1,30 +1,24 @@
 // The words of a line: numbers, kinds and data.
 use crate::wrong::{Problem, Wrong};
-use device::{Kind, SECTOR};
-use std::alloc::Global;
+use device::Kind;
+use std::alloc::{AllocError, Global};
+use std::iter::successors;
+use std::str::FromStr;
 
 /// The most bytes that a line gives as data or as room.
-pub(crate) const MOST_BYTES: u32 = 65536;
+const MOST_BYTES: usize = 65536;
 
-/// The number that a word of decimal digits spells.
-pub(crate) fn number(word: &str, wrong: Wrong) -> Result<u32, Wrong> {
-    for b in word.bytes() {
-        if !b.is_ascii_digit() {
-            return Err(wrong);
-        }
-    }
-    match word.parse::<u32>() {
-        Ok(n) => Ok(n),
-        Err(_) => Err(wrong),
-    }
+/// The words of a line.
+pub(crate) fn words_of(heap: Global, line: &str) -> Result<Vec<&str>, AllocError> {
+    line.split_whitespace().collect(heap)
 }
 
-/// A number that is a byte.
-pub(crate) fn byte(word: &str, wrong: Wrong) -> Result<u8, Wrong> {
-    match u8::try_from(number(word, wrong)?) {
-        Ok(n) => Ok(n),
-        Err(_) => Err(wrong),
+/// The number that a word of decimal digits spells.
+pub(crate) fn number<N: FromStr<Err: Drop>>(word: &str, wrong: Wrong) -> Result<N, Wrong> {
+    if !word.bytes().all(|b| b.is_ascii_digit()) {
+        return Err(wrong);
     }
+    word.parse().map_err(|_| wrong)
 }
 
 /// A number of bytes that a line may ask for.
@@ -33,28 +27,25 @@ pub(crate) fn length(word: &str, wrong: Wrong) -> Result<usize, Wrong> {
     if n > MOST_BYTES {
         return Err(wrong);
     }
-    Ok(n as usize)
+    Ok(n)
 }
 
 /// The number of a kind that is named or given as a number.
-pub(crate) fn kind(word: &str) -> Result<u8, Wrong> {
-    match word {
-        "read" => Ok(Kind::Read.number()),
-        "write" => Ok(Kind::Write.number()),
-        "flush" => Ok(Kind::Flush.number()),
-        _ => byte(word, Wrong::Kind),
-    }
+pub(crate) fn kind_of(word: &str) -> Result<u8, Wrong> {
+    let kind = match word {
+        "read" => Kind::Read,
+        "write" => Kind::Write,
+        "flush" => Kind::Flush,
+        _ => return number(word, Wrong::Kind),
+    };
+    Ok(kind.into())
 }
 
 /// Bytes that begin with `first`, each `step` more than the one before, modulo 256.
-pub(crate) fn row(heap: Global, first: u8, step: u8, length: usize) -> Result<Vec<u8>, Problem> {
-    let mut bytes = Vec::with_capacity(heap, length)?;
-    let mut value = first;
-    for _i in 0..length {
-        bytes.push(value)?;
-        value = value.wrapping_add(step);
-    }
-    Ok(bytes)
+fn row(heap: Global, first: u8, step: u8, length: usize) -> Result<Vec<u8>, AllocError> {
+    successors(Some(first), |b| Some(b.wrapping_add(step)))
+        .take(length)
+        .collect(heap)
 }
 
 /// The data of a request of `count` sectors. A request of more sectors than 65,536 bytes hold is refused for its count,
@@ -63,23 +54,16 @@ pub(crate) fn request_data(heap: Global, word: &str, count: u32) -> Result<Vec<u
     if word == "-" {
         return Ok(Vec::new(heap));
     }
-    let Some((form, rest)) = word.split_once(':') else {
-        return Err(Problem::Line(Wrong::Data));
-    };
+    let (form, rest) = word.split_once(':').ok_or(Wrong::Data)?;
     let step = match form {
         "fill" => 0,
         "from" => 1,
-        _ => return Err(Problem::Line(Wrong::Data)),
+        _ => return Err(Wrong::Data.into()),
     };
-    match rest.split_once(':') {
-        Some((first, given)) => {
-            let first = byte(first, Wrong::Data)?;
-            row(heap, first, step, length(given, Wrong::Length)?)
-        }
-        None => {
-            let first = byte(rest, Wrong::Data)?;
-            let whole = (count as usize * SECTOR).min(MOST_BYTES as usize);
-            row(heap, first, step, whole)
-        }
-    }
+    let whole = Kind::Write.due_length(count).min(MOST_BYTES);
+    let (first, length) = match rest.split_once(':') {
+        Some((first, given)) => (number(first, Wrong::Data)?, length(given, Wrong::Length)?),
+        None => (number(rest, Wrong::Data)?, whole),
+    };
+    Ok(row(heap, first, step, length)?)
 }

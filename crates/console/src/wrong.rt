@@ -1,8 +1,10 @@
 // What can be wrong with a line of a script.
-use std::alloc::{AllocError, AllocFailed};
+use std::alloc::AllocError;
+use std::error::Error;
+use std::fmt;
 
 /// Why a line is no command.
-#[derive(Clone, Copy)]
+#[derive(Clone, Copy, Debug)]
 pub(crate) enum Wrong {
     Command,
     Words,
@@ -20,10 +22,9 @@ pub(crate) enum Wrong {
     Mask,
 }
 
-impl Wrong {
-    /// The words that the console prints.
-    pub(crate) fn text(self) -> &'static str {
-        match self {
+impl fmt::Display for Wrong {
+    fn fmt<W: fmt::Write>(&self, f: &mut fmt::Formatter<W>) -> fmt::Result {
+        f.write_str(match self {
             Wrong::Command => "no such command",
             Wrong::Words => "too few or too many words for this command",
             Wrong::StackNotFirst => "the stack is chosen by the first command, or not at all",
@@ -39,15 +40,30 @@ impl Wrong {
             Wrong::Room => "ROOM is not a number up to 65536",
             Wrong::Sector => "SECTOR is not a number up to 4294967295",
             Wrong::Mask => "MASK is not a number up to 255",
-        }
+        })
+    }
+}
+
+impl Error for Wrong {}
+
+/// What is wrong with the line of a number.
+#[derive(Clone, Copy, Debug)]
+pub(crate) struct Complaint {
+    pub(crate) number: usize,
+    pub(crate) wrong: Wrong,
+}
+
+impl fmt::Display for Complaint {
+    fn fmt<W: fmt::Write>(&self, f: &mut fmt::Formatter<W>) -> fmt::Result {
+        write!(f, "line {}: {}", self.number, self.wrong)
     }
 }
 
 /// Why a line gives no call: it is no command, or there is no memory for its bytes.
-#[derive(Drop)]
+#[derive(Debug, Drop)]
 pub(crate) enum Problem {
     Line(Wrong),
-    Memory,
+    Memory(AllocError),
 }
 
 impl From<Wrong> for Problem {
@@ -57,13 +73,17 @@ impl From<Wrong> for Problem {
 }
 
 impl From<AllocError> for Problem {
-    fn from(_e: AllocError) -> Problem {
-        Problem::Memory
+    fn from(e: AllocError) -> Problem {
+        Problem::Memory(e)
     }
 }
 
-impl<T: Drop> From<AllocFailed<T>> for Problem {
-    fn from(_e: AllocFailed<T>) -> Problem {
-        Problem::Memory
+impl Problem {
+    /// The complaint about the line of a number, or the want of memory.
+    pub(crate) fn at(self, number: usize) -> Result<Complaint, AllocError> {
+        match self {
+            Problem::Line(wrong) => Ok(Complaint { number, wrong }),
+            Problem::Memory(e) => Err(e),
+        }
     }
 }

@@ -3,7 +3,7 @@
 
 #[cfg(test)]
 mod tests {
-    use device::{Device, Request};
+    use device::{Device, Kind, RUN_BYTES, Request};
     use drive::Drive;
     use std::process::Abort;
     use std::test::Fail;
@@ -11,78 +11,68 @@ mod tests {
     // numbers that name no sector
     const NONE: [u32; 8] = [65536; 8];
 
-    // One request by itself: its kind, run and fill, and the ticks of the turn that serves it.
-    #[derive(Clone, Copy)]
+    // One request by itself, and the byte that fills its data.
+    #[derive(Clone, Copy, Debug)]
     struct Step {
-        kind: u8,
+        kind: Kind,
         first: u32,
         count: u32,
         fill: u8,
-        ticks: u32,
     }
 
-    fn write(first: u32, count: u32, fill: u8, ticks: u32) -> Step {
+    const FLUSH: Step = Step {
+        kind: Kind::Flush,
+        first: 0,
+        count: 0,
+        fill: 0,
+    };
+
+    fn write(first: u32, count: u32, fill: u8) -> Step {
         Step {
-            kind: 1,
+            kind: Kind::Write,
             first,
             count,
             fill,
-            ticks,
         }
     }
 
-    fn read(first: u32, ticks: u32) -> Step {
+    fn read(sector: u32) -> Step {
         Step {
-            kind: 0,
-            first,
+            kind: Kind::Read,
+            first: sector,
             count: 1,
             fill: 0,
-            ticks,
         }
     }
 
-    fn flush(ticks: u32) -> Step {
-        Step {
-            kind: 2,
-            first: 0,
-            count: 0,
-            fill: 0,
-            ticks,
-        }
-    }
-
-    // Submits a request, turns once, and collects; the ticks, and the byte in the buffer's middle.
-    fn serve<D: Device>(device: &mut D, step: &Step) -> (u32, u8) {
-        let data = [step.fill; 1024];
-        let mut buffer = [238u8; 1024];
-        let given = if step.kind == 1 {
-            step.count.min(8) as usize * 128
-        } else {
-            0
-        };
+    // Submits a step, turns once, and collects; the ticks, and the byte in the middle of the buffer's first sector.
+    // Its own, and not shared with the other examples: one sends wrong lengths, one serves a step, one sends what is due.
+    fn serve<D: Device>(device: &mut D, step: Step) -> (u32, u8) {
+        let data = [step.fill; RUN_BYTES];
+        let mut buffer = [238; RUN_BYTES];
+        let given = step.kind.due_length(step.count).min(RUN_BYTES);
         let request = Request {
             tag: 1,
-            kind: step.kind,
+            kind: step.kind.into(),
             first: step.first,
             count: step.count,
         };
-        let _ = device.submit(request, &data[0..given], 0);
+        let _ = device.submit(request, &data[..given], 0);
         let ticks = device.turn(0);
         let _ = device.collect(1, &mut buffer);
         (ticks, buffer[64])
     }
 
-    fn serve_all<D: Device>(rt: &impl Abort, device: &mut D, steps: &[Step]) {
-        for step in steps {
-            let (ticks, _) = serve(device, step);
-            assert_eq!(rt; ticks, step.ticks);
+    // Serves the steps, each of which takes so many ticks.
+    fn serve_all<D: Device>(rt: &impl Abort, device: &mut D, steps: &[(Step, u32)]) {
+        for (step, ticks) in steps {
+            assert_eq!(rt; serve(device, *step).0, *ticks, "at {step:?}");
         }
     }
 
     // The byte in the middle of a sector.
     fn shown<D: Device>(device: &mut D, sector: u32) -> u8 {
-        let (_, byte) = serve(device, &read(sector, 0));
-        byte
+        serve(device, read(sector)).1
     }
 
     // Eight sectors fill the buffer, and none reaches the medium.
@@ -90,7 +80,7 @@ mod tests {
     fn eight_sectors_stay(rt: HostRuntime) -> Result<(), Fail> {
         let mut bytes = [0u8; 4096];
         let mut drive = Drive::new(rt.alloc(), &mut bytes, NONE)?;
-        serve_all(&rt, &mut drive, &[write(0, 8, 5, 1)]);
+        serve_all(&rt, &mut drive, &[(write(0, 8, 5), 1)]);
         assert_eq!(rt; shown(&mut drive, 7), 5);
         drop(drive);
         assert_eq!(rt; bytes[0], 0);
@@ -106,7 +96,11 @@ mod tests {
         serve_all(
             &rt,
             &mut drive,
-            &[write(0, 8, 5, 1), write(0, 1, 6, 1), write(8, 1, 7, 1)],
+            &[
+                (write(0, 8, 5), 1),
+                (write(0, 1, 6), 1),
+                (write(8, 1, 7), 1),
+            ],
         );
         assert_eq!(rt; shown(&mut drive, 0), 6);
         drop(drive);
@@ -124,7 +118,12 @@ mod tests {
         serve_all(
             &rt,
             &mut drive,
-            &[write(0, 8, 5, 1), write(8, 8, 6, 1), flush(9), flush(1)],
+            &[
+                (write(0, 8, 5), 1),
+                (write(8, 8, 6), 1),
+                (FLUSH, 9),
+                (FLUSH, 1),
+            ],
         );
         drop(drive);
         assert_eq!(rt; bytes[1023], 5);
@@ -139,10 +138,10 @@ mod tests {
     fn bad_sectors_take_no_place(rt: HostRuntime) -> Result<(), Fail> {
         let mut bytes = [3u8; 4096];
         let mut drive = Drive::new(rt.alloc(), &mut bytes, [2, 5, 99, 99, 99, 99, 99, 99])?;
-        serve_all(&rt, &mut drive, &[write(0, 8, 5, 1), write(8, 2, 6, 1)]);
+        serve_all(&rt, &mut drive, &[(write(0, 8, 5), 1), (write(8, 2, 6), 1)]);
         assert_eq!(rt; shown(&mut drive, 2), 0);
         assert_eq!(rt; shown(&mut drive, 9), 6);
-        serve_all(&rt, &mut drive, &[flush(9)]);
+        serve_all(&rt, &mut drive, &[(FLUSH, 9)]);
         drop(drive);
         assert_eq!(rt; bytes[256], 3);
         assert_eq!(rt; bytes[0], 5);
@@ -154,18 +153,18 @@ mod tests {
     fn reads_take_buffered_bytes_first(rt: HostRuntime) -> Result<(), Fail> {
         let mut bytes = [3u8; 4096];
         let mut drive = Drive::new(rt.alloc(), &mut bytes, NONE)?;
-        serve_all(&rt, &mut drive, &[write(1, 1, 5, 1)]);
+        serve_all(&rt, &mut drive, &[(write(1, 1, 5), 1)]);
         assert_eq!(rt; drive.capacity(), 1);
         let request = Request {
             tag: 1,
-            kind: 0,
+            kind: Kind::Read.into(),
             first: 0,
             count: 3,
         };
         let mut buffer = [238u8; 400];
-        assert!(rt; drive.submit(request, &[], 0).is_ok());
+        assert_eq!(rt; drive.submit(request, &[], 0), Ok(()));
         assert_eq!(rt; drive.turn(0), 1);
-        assert_eq!(rt; drive.collect(1, &mut buffer).unwrap_or(1), 0);
+        assert_eq!(rt; drive.collect(1, &mut buffer), Ok(0));
         assert_eq!(rt; buffer[127], 3);
         assert_eq!(rt; buffer[128], 5);
         assert_eq!(rt; buffer[256], 3);
@@ -182,12 +181,12 @@ mod tests {
             &rt,
             &mut drive,
             &[
-                read(0, 1),
-                read(1, 1),
-                read(17, 1),
-                read(34, 2),
-                read(20, 1),
-                read(5, 2),
+                (read(0), 1),
+                (read(1), 1),
+                (read(17), 1),
+                (read(34), 2),
+                (read(20), 1),
+                (read(5), 2),
             ],
         );
         Ok(())
@@ -198,7 +197,7 @@ mod tests {
     fn the_longest_way(rt: HostRuntime) -> Result<(), Fail> {
         let mut bytes = vec![in rt.alloc(); 0u8; 8388608]?;
         let mut drive = Drive::new(rt.alloc(), bytes.as_mut_slice(), NONE)?;
-        serve_all(&rt, &mut drive, &[read(65535, 4096), read(0, 4097)]);
+        serve_all(&rt, &mut drive, &[(read(65535), 4096), (read(0), 4097)]);
         Ok(())
     }
 }

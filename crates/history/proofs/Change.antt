@@ -1,5 +1,5 @@
 -- The four things that a call sent to a device can be.
-use Rattle.std.proofs.Common.{◌≡◌, ℕ, ◌+◌, ◌≤◌, Bool, true, false, cond, eqb, ltb, List, [], ◌∷◌, ◌++◌, length, drop, Some, None, Ok, Err, Option, Result, sym, refl, subst, arith}
+use Rattle.std.proofs.Common.{◌≡◌, ℕ, ◌+◌, ◌≤◌, Bool, true, false, cond, eqb, ltb, List, [], ◌∷◌, ◌++◌, length, drop, Some, None, Ok, Err, Option, Result, sym, refl, subst}
 use Rattle.device.specs.declared.interface.Cause.{Cause}
 use Rattle.device.specs.declared.interface.Cause.TheVariants as causes
 use Rattle.device.specs.declared.interface.Kind.{Kind}
@@ -7,7 +7,7 @@ use Rattle.device.specs.declared.interface.Request.{Request}
 use Rattle.device.specs.declared.interface.Refusal.{Refusal}
 use Rattle.device.specs.Told.{Told}
 use Rattle.device.specs.Told as told
-use Rattle.device.specs.Meaning.{Meaning, Ticket, with_disk, refused_by}
+use Rattle.device.specs.Meaning.{Meaning, Ticket, with_disk}
 use Rattle.device.specs.Numbers.{kind_of}
 use Rattle.device.specs.Submit.{due_length, form, tag_is_open, admitted_as, admitted, ticket_of, disk_after, submitted_as, submit_answer_as}
 use Rattle.device.specs.Collect.{found, without, due_as, due, collect_answer_as, collected_as, buffer_as}
@@ -23,16 +23,13 @@ pub record Fit (m : Meaning) (q : Request) (given : ℕ) (k : Kind) : Type 0 whe
   pub long : given ≡ due_length k q.count
   pub fresh : tag_is_open q.tag m.tickets ≡ false
 
-ok_err : {A B : Type 0} (a : A) (b : B) → ◌≡◌ {A = Result A B} (Ok a) (Err b) → ⊥
-ok_err a b e = let z : ◌≡◌ {A = ℕ} 0 1 = cc in omega arith
-
 admitted_by : (r : Result Kind Cause) (m : Meaning) (t : ℕ) (k : Kind) → admitted_as r m t ≡ Ok k → (r ≡ Ok k) × (tag_is_open t m.tickets ≡ false)
-admitted_by (Err c) m t k e = absurd (ok_err k c (sym e))
+admitted_by (Err c) m t k e = cc
 admitted_by (Ok j) m t k e = go (tag_is_open t m.tickets) (eqb (length m.tickets) m.capacity) e
   where
     go : (a b : Bool) → ◌≡◌ {A = Result Kind Cause} (cond a (Err causes.TagOpen) (cond b (Err causes.Full) (Ok j))) (Ok k) → (◌≡◌ {A = Result Kind Cause} (Ok j) (Ok k)) × (a ≡ false)
-    go true b e = absurd (ok_err k causes.TagOpen (sym e))
-    go false true e = absurd (ok_err k causes.Full (sym e))
+    go true b e = cc
+    go false true e = cc
     go false false e = (e, refl)
 
 fits : (m : Meaning) (q : Request) (n : ℕ) (k : Kind) → admitted m q n ≡ Ok k → Fit m q n k
@@ -48,23 +45,23 @@ pub data Change : Meaning → Told → Meaning → Type 0 where
   gives : {m : Meaning} {t mask : ℕ} {g b : List ℕ} (x : Ticket) → found t m.tickets ≡ Some x → mask ≡ x.mask → b ≡ x.bytes ++ drop (length x.bytes) g → Change m (told.collect t g (Ok mask) b) (with_disk m m.disk (without t m.tickets))
 
 submit_change : (m : Meaning) (q : Request) (d : List ℕ) (k : ℕ) (r : Result (Unit {0}) Refusal) (a : Result Kind Cause) → admitted m q (length d) ≡ a → r ≡ submit_answer_as a m → Change m (told.submit q d k r) (submitted_as a m q d)
-submit_change m q d k (Ok u) (Err c) f e = absurd (ok_err u (refused_by m c) e)
-submit_change m q d k (Err x) (Ok j) f e = absurd (ok_err tt x (sym e))
+submit_change m q d k (Ok u) (Err c) f e = cc
+submit_change m q d k (Err x) (Ok j) f e = cc
 submit_change m q d k (Err x) (Err c) f e = ignored (λ t. refl) (λ t. refl) (λ s. refl) refl
 submit_change m q d k (Ok u) (Ok j) f e = takes j (fits m q (length d) j f)
 
 due_found : (o : Option Ticket) (room : ℕ) (x : Ticket) → due_as o room ≡ Ok x → o ≡ Some x
-due_found None room x e = absurd (ok_err x causes.NotOpen (sym e))
+due_found None room x e = cc
 due_found (Some y) room x e = go y.ready (ltb room (length y.bytes)) e
   where
     go : (a b : Bool) → ◌≡◌ {A = Result Ticket Cause} (cond a (cond b (Err causes.ShortBuffer) (Ok y)) (Err causes.Waits)) (Ok x) → Some y ≡ Some x
-    go true true e = absurd (ok_err x causes.ShortBuffer (sym e))
+    go true true e = cc
     go true false e = cc
-    go false b e = absurd (ok_err x causes.Waits (sym e))
+    go false b e = cc
 
 collect_change : (m : Meaning) (t : ℕ) (g b : List ℕ) (r : Result ℕ Refusal) (w : Result Ticket Cause) → due m t (length g) ≡ w → r ≡ collect_answer_as w m → b ≡ buffer_as w g → Change m (told.collect t g r b) (collected_as w m t)
-collect_change m t g b (Ok a) (Err c) f e h = absurd (ok_err a (refused_by m c) e)
-collect_change m t g b (Err a) (Ok x) f e h = absurd (ok_err x.mask a (sym e))
+collect_change m t g b (Ok a) (Err c) f e h = cc
+collect_change m t g b (Err a) (Ok x) f e h = cc
 collect_change m t g b (Err a) (Err c) f e h = ignored (λ t. refl) (λ t. refl) (λ s. refl) refl
 collect_change m t g b (Ok a) (Ok x) f e h = let z : a ≡ x.mask = cc in gives x (due_found (found t m.tickets) (length g) x f) z h
 

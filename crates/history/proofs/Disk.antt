@@ -1,5 +1,6 @@
 -- The disk holds at each good sector the last write accepted, and a row of sectors holds each in its part.
-use Rattle.std.proofs.Common.{◌≡◌, ℕ, zero, suc, ◌+◌, ◌-◌, ◌*◌, ◌<◌, ◌≤◌, Bool, true, false, cond, not, ◌&&◌, eqb, ltb, leb, List, ◌++◌, length, take, Some, None, Ok, Option, sym, refl, ap, ◌∙◌, subst, ⊎_elim, append_assoc, arith, length-append, length-drop, length-take}
+use Rattle.std.proofs.Common.{◌≡◌, ℕ, zero, suc, ◌+◌, ◌-◌, ◌*◌, ◌<◌, ◌≤◌, Bool, true, false, cond, not, ◌&&◌, eqb, ltb, leb, List, ◌++◌, length, take, Some, None, Ok, Option, unwrap_or, sym, refl, ap, ◌∙◌, subst, ⊎_elim, append_assoc, arith, length-append, length-drop, length-take}
+use Rattle.std.specs.Option.{option_or}
 use Rattle.std.proofs.lemmas.List.{drop_at, take_at}
 use Rattle.std.proofs.lemmas.Bool.{eqb-true, leb-true, ltb-true, and_parts, cases_lt}
 use Rattle.device.specs.Told.{Told}
@@ -10,7 +11,7 @@ use Rattle.device.specs.declared.interface.Request.{Request}
 use Rattle.device.specs.Meaning.{Meaning, Contents, part, bytes_of, covers}
 use Rattle.device.specs.Numbers.{kind_of, kind_number}
 use Rattle.device.specs.Submit.{disk_after, due_length}
-use Rattle.history.specs.History.{writes, later, or_else, last_write, last_written}
+use Rattle.history.specs.History.{writes, last_write, last_written}
 use Rattle.history.specs.Steps.{Ran, still, next}
 use Rattle.history.proofs.Change.{Change, ignored, turned, takes, gives, changes}
 
@@ -36,9 +37,9 @@ numbered n k e = go (eqb n 0) (eqb n 1) (eqb n 2) refl refl refl e
     go true b c p q r e = let f : Read ≡ k = cc in eqb-true n 0 p ∙ ap kind_number f
     go false true c p q r e = let f : Write ≡ k = cc in eqb-true n 1 q ∙ ap kind_number f
     go false false true p q r e = let f : Flush ≡ k = cc in eqb-true n 2 r ∙ ap kind_number f
-    go false false false p q r e = let z : ◌≡◌ {A = ℕ} 0 1 = cc in absurd (omega arith)
+    go false false false p q r e = cc
 
-cond_some : (b : Bool) (x y : List ℕ) → cond b x y ≡ or_else (cond b (Some x) None) y
+cond_some : (b : Bool) (x y : List ℕ) → cond b x y ≡ unwrap_or (cond b (Some x) None) y
 cond_some true x y = refl
 cond_some false x y = refl
 
@@ -46,21 +47,21 @@ good : (a b : Bool) → b ≡ false → (a && not b) ≡ a
 good true b e = ap not e
 good false b e = refl
 
-disk_takes : (m : Meaning) (q : Request) (d : List ℕ) (t : ℕ) (s : ℕ) (k : Kind) → kind_of q.kind ≡ Some k → m.bad s ≡ false → disk_after k m q d s ≡ or_else (writes s (told.submit q d t (Ok tt))) (m.disk s)
-disk_takes m q d t s Read e g = ap (λ n. or_else (cond (eqb n 1 && covers q.first q.count s) (Some (part d (s - q.first))) None) (m.disk s)) (sym (numbered q.kind Read e))
+disk_takes : (m : Meaning) (q : Request) (d : List ℕ) (t : ℕ) (s : ℕ) (k : Kind) → kind_of q.kind ≡ Some k → m.bad s ≡ false → disk_after k m q d s ≡ unwrap_or (writes s (told.submit q d t (Ok tt))) (m.disk s)
+disk_takes m q d t s Read e g = ap (λ n. unwrap_or (cond (eqb n 1 && covers q.first q.count s) (Some (part d (s - q.first))) None) (m.disk s)) (sym (numbered q.kind Read e))
 disk_takes m q d t s Write e g =
     ap (λ b. cond b (part d (s - q.first)) (m.disk s)) (good (covers q.first q.count s) (m.bad s) g)
     ∙ cond_some (covers q.first q.count s) _ _
-    ∙ ap (λ n. or_else (cond (eqb n 1 && covers q.first q.count s) (Some (part d (s - q.first))) None) (m.disk s)) (sym (numbered q.kind Write e))
-disk_takes m q d t s Flush e g = ap (λ n. or_else (cond (eqb n 1 && covers q.first q.count s) (Some (part d (s - q.first))) None) (m.disk s)) (sym (numbered q.kind Flush e))
+    ∙ ap (λ n. unwrap_or (cond (eqb n 1 && covers q.first q.count s) (Some (part d (s - q.first))) None) (m.disk s)) (sym (numbered q.kind Write e))
+disk_takes m q d t s Flush e g = ap (λ n. unwrap_or (cond (eqb n 1 && covers q.first q.count s) (Some (part d (s - q.first))) None) (m.disk s)) (sym (numbered q.kind Flush e))
 
-disk_change : {m m' : Meaning} {e : Told} (s : ℕ) → Change m e m' → m.bad s ≡ false → m'.disk s ≡ or_else (writes s e) (m.disk s)
-disk_change s (ignored {m = m} a b w n) g = ap (λ o. or_else o (m.disk s)) (sym (w s))
+disk_change : {m m' : Meaning} {e : Told} (s : ℕ) → Change m e m' → m.bad s ≡ false → m'.disk s ≡ unwrap_or (writes s e) (m.disk s)
+disk_change s (ignored {m = m} a b w n) g = ap (λ o. unwrap_or o (m.disk s)) (sym (w s))
 disk_change s (turned r) g = ap (λ f. f s) r.disk
 disk_change s (takes {m = m} {q = q} {d = d} {t = t} k f) g = disk_takes m q d t s k f.is_kind g
 disk_change s (gives x f a b) g = refl
 
-nest : (o p : Option (List ℕ)) (l : List ℕ) → or_else o (or_else p l) ≡ or_else (later p o) l
+nest : (o p : Option (List ℕ)) (l : List ℕ) → unwrap_or o (unwrap_or p l) ≡ unwrap_or (option_or o p) l
 nest (Some d) p l = refl
 nest None p l = refl
 
@@ -69,7 +70,7 @@ disk_holds s still g = refl
 disk_holds s (next {m = m} {m₁ = m₁} {e = e} {es = es} a r) g =
     let c = changes m e m₁ a in
     disk_holds s r (ap (λ f. f s) (shape_change c).bad ∙ g)
-    ∙ ap (λ l. or_else (last_write s es) l) (disk_change s c g)
+    ∙ ap (λ l. unwrap_or (last_write s es) l) (disk_change s c g)
     ∙ nest (last_write s es) (writes s e) (m.disk s)
 
 -- each sector of the disk has its 128 bytes

@@ -6,7 +6,6 @@ use Rattle.device.specs.Submit.{tag_is_open}
 use Rattle.device.specs.Collect.{found, without}
 use Rattle.device.specs.Turns.{waiting, Readied, none, stays, turns, made_ready}
 use Rattle.device.specs.Sound.{distinct}
-use Rattle.history.specs.Promise.{tags}
 
 -- no tag twice
 abbrev pub Once : List Ticket → Type 0
@@ -21,11 +20,6 @@ pub eqb_flip : (a b : ℕ) → eqb a b ≡ false → eqb b a ≡ false
 eqb_flip a b h = ne_eqb b a (λ e. eqb-false a b h (sym e))
 
 -- a turn keeps the tags
-pub tags_readied : {ts us : List Ticket} → Readied ts us → tags us ≡ tags ts
-tags_readied none = refl
-tags_readied (stays {t = x} r) = ap (λ l. x.tag ∷ l) (tags_readied r)
-tags_readied (turns {t = x} e r) = ap (λ l. x.tag ∷ l) (tags_readied r)
-
 pub open_readied : {ts us : List Ticket} (t : ℕ) → Readied ts us → tag_is_open t us ≡ tag_is_open t ts
 open_readied t none = refl
 open_readied t (stays {t = x} r) = ap (λ b. eqb t x.tag || b) (open_readied t r)

@@ -1,6 +1,6 @@
 -- What a log shows, from the steps of the device that it was sent to.
-use Rattle.std.proofs.Common.{◌≡◌, ℕ, ◌≤◌, List, [], ◌∷◌, ◌++◌, Ok, Err, vec_items, Result, Vec, sym, refl, ap, ◌∙◌, subst, append_assoc, arith, MatchResult}
-use Rattle.std.proofs.lemmas.List.{append-nil}
+use Rattle.std.proofs.Common.{◌≡◌, ◌≤◌, List, [], ◌∷◌, ◌++◌, vec_items, Vec, sym, ap, ◌∙◌, subst, append_assoc, arith}
+use Rattle.std.proofs.lemmas.List.{append-nil, map-append}
 use Rattle.std.specs.declared.alloc.Global.{Global}
 use Rattle.device.specs.Meaning.{Meaning}
 use Rattle.device.specs.Told.{Told}
@@ -17,23 +17,6 @@ use Rattle.history.proofs.Disk.{Whole}
 use Rattle.history.proofs.Named.{named_from_none, none_waits}
 use Rattle.history.proofs.OpenFacts.{tags_open, waiting_open}
 use Rattle.history.proofs.Promise.{promise}
-
--- one more call sent
-calls_push : (h : List Event) (e : Event) → calls_of (h ++ (e ∷ [])) ≡ calls_of h ++ (call_of e ∷ [])
-calls_push [] e = refl
-calls_push (x ∷ xs) e = ap (λ l. call_of x ∷ l) (calls_push xs e)
-
-pub calls_on : (h : List Event) (e : Event) (call : Call) (rest rest' all : List Call) → calls_of h ++ rest ≡ all → rest ≡ call ∷ rest' → call_of e ≡ call → calls_of (h ++ (e ∷ [])) ++ rest' ≡ all
-calls_on h e call rest rest' all p q r =
-    ap (λ l. l ++ rest') (calls_push h e)
-    ∙ append_assoc (calls_of h) (call_of e ∷ []) rest'
-    ∙ ap (λ c. calls_of h ++ (c ∷ rest')) r
-    ∙ ap (λ l. calls_of h ++ l) (sym q)
-    ∙ p
-
-pub cases_err : {A B : Type 0} (r : Result A B) (P : A → Type 0) (Q : Type 0) (e : B) → r ≡ Err e → Q → MatchResult r P (λ _. Q)
-cases_err (Ok a) P Q e p q = let z : ◌≡◌ {A = ℕ} 0 1 = cc in absurd (omega arith)
-cases_err (Err b) P Q e p q = q
 
 module _ {D : Type 0} (meaning : D → Meaning) (does : D → Told → D → Type 0) where
   abbrev Goes : D → List Event → D → Type 0
@@ -94,8 +77,22 @@ module _ {D : Type 0} (meaning : D → Meaning) (does : D → Told → D → Typ
     shown = λ z. record { open_lists = open_lists log r z; settled = settled log r };
   }
 
-  pub all_sent : {d d' : D} (log : List Event) (calls rest : List Call) → Whole (meaning d) → Goes d log d' → calls_of log ++ rest ≡ calls → rest ≡ [] → SentAll meaning does d calls log d'
-  all_sent log calls rest w r p z = record { all = sym (append-nil (calls_of log)) ∙ ap (λ l. calls_of log ++ l) (sym z) ∙ p; heard = heard_by log w r }
+  -- so many of the calls are sent, and these are left
+  pub record Sending (d : D) (calls : List Call) (log : List Event) (rest : List Call) (d' : D) : Type 0 where
+    pub went : Goes d log d'
+    pub front : calls_of log ++ rest ≡ calls
 
-  pub some_sent : {d d' : D} (log : List Event) (calls rest : List Call) → Whole (meaning d) → Goes d log d' → calls_of log ++ rest ≡ calls → SentSome meaning does d calls d'
-  some_sent log calls rest w r p = record { log = log; rest = rest; front = p; heard = heard_by log w r }
+  pub none_sent : {d : D} {calls rest : List Call} {log : List Event} → log ≡ [] → rest ≡ calls → Sending d calls log rest d
+  none_sent {d} {calls} {rest} l r = record { went = subst (λ h. Goes d h d) (sym l) stays; front = ap (λ h. calls_of h ++ rest) l ∙ r }
+
+  pub one_sent : {d d₁ d₂ : D} {calls rest rest' : List Call} {log log' : List Event} {call : Call} (e : Event) → log' ≡ log ++ (e ∷ []) → Sending d calls log rest d₁ → rest ≡ call ∷ rest' → call_of e ≡ call → Step meaning does d₁ e d₂ → Sending d calls log' rest' d₂
+  one_sent {d} {d₁} {d₂} {calls} {rest} {rest'} {log} {log'} {call} e l s r c n = record {
+    went = subst (λ h. Goes d h d₂) (sym l) (went_on e s.went n);
+    front = ap (λ h. calls_of h ++ rest') l ∙ ap (λ h. h ++ rest') (map-append call_of log (e ∷ [])) ∙ append_assoc (calls_of log) (call_of e ∷ []) rest' ∙ ap (λ x. calls_of log ++ (x ∷ rest')) c ∙ ap (λ x. calls_of log ++ x) (sym r) ∙ s.front;
+  }
+
+  pub all_sent : {d d' : D} {calls rest : List Call} {log : List Event} → Whole (meaning d) → Sending d calls log rest d' → rest ≡ [] → SentAll meaning does d calls log d'
+  all_sent {log = log} w s z = record { all = sym (append-nil (calls_of log)) ∙ ap (λ l. calls_of log ++ l) (sym z) ∙ s.front; heard = heard_by log w s.went }
+
+  pub some_sent : {d d' : D} {calls rest : List Call} {log : List Event} → Whole (meaning d) → Sending d calls log rest d' → SentSome meaning does d calls d'
+  some_sent {rest = rest} {log = log} w s = record { log = log; rest = rest; front = s.front; heard = heard_by log w s.went }

@@ -1,8 +1,8 @@
--- The steps of the loop that asks for the open tickets; what an open list says.
-use Rattle.std.proofs.Common.{◌≡◌, ℕ, zero, suc, ◌+◌, ◌<◌, ◌≤◌, Bool, true, false, cond, not, eqb, List, [], ◌∷◌, ◌++◌, length, take, Some, None, Option, sym, refl, ap, ◌∙◌, arith}
-use Rattle.std.proofs.lemmas.List.{take_all}
-use Rattle.std.proofs.lemmas.Bool.{eq-eqb, ne_eqb, and_parts, not-true, or_left, or_right, true≢false}
-use Rattle.device.specs.declared.interface.State.{State}
+-- What the questions for the open tickets list, and what that list says.
+use Rattle.std.proofs.Common.{◌≡◌, ℕ, zero, suc, ◌+◌, Bool, true, false, cond, not, eqb, List, [], ◌∷◌, map, length, Some, Option, refl, ap, ◌∙◌, arith}
+use mathlib.Core.List.{map-map}
+use Rattle.std.proofs.lemmas.Bool.{eq-eqb, and_parts, or_parts, not-true}
+use Rattle.std.specs.List.{filter_map, cons_option, range_with_len}
 use Rattle.device.specs.Meaning.{Ticket}
 use Rattle.device.specs.Submit.{tag_is_open}
 use Rattle.device.specs.Collect.{found}
@@ -12,45 +12,43 @@ use Rattle.device.specs.Sound.{distinct}
 use Rattle.history.specs.declared.call.OpenTicket.{OpenTicket}
 use Rattle.history.specs.Promise.{tags}
 use Rattle.history.specs.Questions.{open_list, tags_in, is_waiting, waiting_in}
+use Rattle.history.proofs.Lists.{eqb_flip}
 
-none_some : {A : Type 0} (t : ℕ) → ◌≡◌ {A = Option ℕ} None (Some t) → A
-none_some t e = let z : ◌≡◌ {A = ℕ} 0 1 = cc in absurd (omega arith)
+-- an open ticket by its tag
+abbrev named : List Ticket → ℕ → OpenTicket
+named ts t = record { tag = t; state = state_of t ts }
 
-at_open : (ts : List Ticket) (i t : ℕ) → tag_at i ts ≡ Some t → tag_is_open t ts ≡ true
-at_open [] i t e = none_some t e
-at_open (x ∷ xs) zero t e = let f : x.tag ≡ t = cc in or_left (eqb t x.tag) (tag_is_open t xs) (eq-eqb t x.tag (sym f))
-at_open (x ∷ xs) (suc i) t e = or_right (eqb t x.tag) (tag_is_open t xs) (at_open xs i t e)
+-- what is asked from the second place on
+shifted : (g : ℕ → Option ℕ) (a b n : ℕ) → b ≡ suc a → filter_map g (range_with_len b n) ≡ filter_map (λ i. g (suc i)) (range_with_len a n)
+shifted g a b zero e = refl
+shifted g a b (suc n) e = ap (λ k. cons_option (g k) (filter_map g (range_with_len (b + 1) n))) e ∙ ap (cons_option (g (suc a))) (shifted g (a + 1) (b + 1) n (omega arith))
 
-abbrev named : ℕ → State → List OpenTicket
-named t s = record { tag = t; state = s } ∷ []
+tags_asked : (ts : List Ticket) → filter_map (λ i. tag_at i ts) (range_with_len 0 (length ts)) ≡ tags ts
+tags_asked [] = refl
+tags_asked (x ∷ xs) = ap (λ l. x.tag ∷ l) (shifted (λ i. tag_at i (x ∷ xs)) 0 1 (length xs) refl ∙ tags_asked xs)
 
-pub open_more : (ts : List Ticket) (i t : ℕ) → distinct ts ≡ true → tag_at i ts ≡ Some t → take (suc i) (open_list ts) ≡ take i (open_list ts) ++ named t (state_of t ts)
-open_more [] i t d e = none_some t e
-open_more (x ∷ xs) zero t d e =
-    let f : x.tag ≡ t = cc in
-    ap (λ u. named u (state_by x.ready)) f ∙ ap (named t) (sym (ap (λ b. state_as (cond b (Some x) (found t xs))) (eq-eqb t x.tag (sym f))))
-open_more (x ∷ xs) (suc i) t d e =
+-- a younger ticket's state, past a ticket of another tag
+past : (x : Ticket) (ts xs : List Ticket) → tag_is_open x.tag xs ≡ false → map (named (x ∷ ts)) (tags xs) ≡ map (named ts) (tags xs)
+past x ts [] h = refl
+past x ts (y ∷ ys) h =
+    let p = or_parts (eqb x.tag y.tag) (tag_is_open x.tag ys) h in
+    let rest = past x ts ys p.1 in
+    ap (λ b. record { tag = y.tag; state = state_as (cond b (Some x) (found y.tag ts)) } ∷ map (named (x ∷ ts)) (tags ys)) (eqb_flip x.tag y.tag p.0) ∙ ap (λ l. named ts y.tag ∷ l) rest
+
+states_asked : (ts : List Ticket) → distinct ts ≡ true → map (named ts) (tags ts) ≡ open_list ts
+states_asked [] d = refl
+states_asked (x ∷ xs) d =
     let a = and_parts (not (tag_is_open x.tag xs)) (distinct xs) d in
-    let o : OpenTicket = record { tag = x.tag; state = state_by x.ready } in
-    let other : eqb t x.tag ≡ false = ne_eqb t x.tag (λ p. true≢false (sym (at_open xs i t e) ∙ ap (λ u. tag_is_open u xs) p ∙ not-true (tag_is_open x.tag xs) a.0)) in
-    ap (λ l. o ∷ l) (open_more xs i t a.1 e)
-    ∙ ap (λ s. o ∷ (take i (open_list xs) ++ named t s)) (sym (ap (λ b. state_as (cond b (Some x) (found t xs))) other))
+    ap (λ b. record { tag = x.tag; state = state_as (cond b (Some x) (found x.tag xs)) } ∷ map (named (x ∷ xs)) (tags xs)) (eq-eqb x.tag x.tag refl)
+    ∙ ap (λ l. record { tag = x.tag; state = state_by x.ready } ∷ l) (past x xs xs (not-true (tag_is_open x.tag xs) a.0) ∙ states_asked xs a.1)
 
-pub inside : (ts : List Ticket) (i : ℕ) → i < length ts → tag_at i ts ≡ None → ⊥
-inside [] i l e = omega arith
-inside (x ∷ xs) zero l e = none_some x.tag (sym e)
-inside (x ∷ xs) (suc i) l e = inside xs i (omega arith) e
-
-open_length : (ts : List Ticket) → length (open_list ts) ≡ length ts
-open_length [] = refl
-open_length (x ∷ xs) = ap suc (open_length xs)
-
-pub open_all : (ts : List Ticket) (i : ℕ) → length ts ≤ i → take i (open_list ts) ≡ open_list ts
-open_all ts i l = take_all i (open_list ts) (let e = open_length ts in omega arith)
+-- the tags at each place, and the state of each of these
+pub open_asked : (ts : List Ticket) (n : ℕ) → distinct ts ≡ true → n ≡ length ts
+    → map (λ t. record { tag = t; state = state_of t ts }) (filter_map (λ i. tag_at i ts) (range_with_len 0 n)) ≡ open_list ts
+open_asked ts n d e = ap (λ k. map (named ts) (filter_map (λ i. tag_at i ts) (range_with_len 0 k))) e ∙ ap (map (named ts)) (tags_asked ts) ∙ states_asked ts d
 
 pub tags_open : (ts : List Ticket) → tags_in (open_list ts) ≡ tags ts
-tags_open [] = refl
-tags_open (x ∷ xs) = ap (λ l. x.tag ∷ l) (tags_open xs)
+tags_open ts = map-map _ _ ts
 
 waits_by : (b : Bool) → is_waiting (state_by b) ≡ cond b 0 1
 waits_by true = refl

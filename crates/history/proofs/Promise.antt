@@ -1,5 +1,5 @@
 -- What a device that was sent a list of calls keeps.
-use Rattle.std.proofs.Common.{◌≡◌, ℕ, ◌+◌, Bool, true, false, eqb, List, [], ◌∷◌, ◌++◌, length, drop, Some, None, Ok, Option, sym, refl, ap, ◌∙◌, subst, arith}
+use Rattle.std.proofs.Common.{◌≡◌, ℕ, ◌+◌, Bool, true, false, eqb, List, [], ◌∷◌, ◌++◌, length, drop, Some, None, Ok, sym, refl, ap, ◌∙◌, subst, arith}
 use Rattle.std.proofs.lemmas.Bool.{eqb-true, eq-eqb, true≢false}
 use Rattle.device.specs.Told.{Told}
 use Rattle.device.specs.Told as told
@@ -37,12 +37,6 @@ data Origin (m : Meaning) (h : List Told) (t : ℕ) (y : Ticket) : Type 0 where
   old : Like (found t m.tickets) y → Untouched t h → Origin m h t y
   made : (earlier : List Told) (q : Request) (d : List ℕ) (tick : ℕ) (since : List Told) (mid : Meaning) (k : Kind) → h ≡ earlier ++ (told.submit q d tick (Ok tt) ∷ since) → q.tag ≡ t → Untouched t since → Ran m earlier mid → Fit mid q (length d) k → y.mask ≡ (ticket_of mid q k).mask → y.bytes ≡ (ticket_of mid q k).bytes → Origin m h t y
 
-some_same : (o : Option Ticket) (x z : Ticket) → o ≡ Some x → o ≡ Some z → x ≡ z
-some_same o x z p q = cc
-
-none_some : (o : Option Ticket) (x : Ticket) → o ≡ None → o ≡ Some x → ⊥
-none_some o x p q = let z : ◌≡◌ {A = ℕ} 0 1 = cc in omega arith
-
 -- one call back
 back : {m m₁ : Meaning} {e : Told} (es : List Told) (t : ℕ) (y : Ticket) → Change m e m₁ → Once m.tickets → Like (found t m₁.tickets) y → Untouched t es → Origin m (e ∷ es) t y
 back es t y (ignored a b w n) o l u = old l (a t, b t, u)
@@ -53,13 +47,13 @@ back es t y (takes {m = m} {q = q} {d = d} {t = tick} k f) o l u = go (eqb t q.t
     go true e =
         let g : t ≡ q.tag = eqb-true t q.tag e in
         let x = ticket_of m q k in
-        let s : l.0 ≡ x = some_same _ l.0 x l.1 (found_push_same t m.tickets x e (ap (λ n. tag_is_open n m.tickets) g ∙ f.fresh)) in
+        let s : l.0 ≡ x = cc (l.1, found_push_same t m.tickets x e (ap (λ n. tag_is_open n m.tickets) g ∙ f.fresh)) in
         made [] q d tick es m k refl (sym g) u still f (l.2 ∙ ap (λ (z : Ticket). z.mask) s) (l.3 ∙ ap (λ (z : Ticket). z.bytes) s)
     go false e = old (l.0, sym (found_push_other t m.tickets (ticket_of m q k) e) ∙ l.1, l.2, l.3) (e, refl, u)
 back es t y (gives {m = m} {t = v} {mask = mask} {g = g} {b = b} x f a c) o l u = go (eqb t v) refl
   where
     go : (z : Bool) → eqb t v ≡ z → Origin m (told.collect v g (Ok mask) b ∷ es) t y
-    go true e = absurd (none_some _ l.0 (ap (λ n. found t (without n m.tickets)) (sym (eqb-true t v e)) ∙ found_without_same t m.tickets o) l.1)
+    go true e = cc (l.1, ap (λ n. found t (without n m.tickets)) (sym (eqb-true t v e)) ∙ found_without_same t m.tickets o)
     go false e = old (l.0, sym (found_without_other t v m.tickets e) ∙ l.1, l.2, l.3) (refl, e, u)
 
 step : {m m₁ : Meaning} {e : Told} (es : List Told) (t : ℕ) (y : Ticket) → Sent m e m₁ → Change m e m₁ → Once m.tickets → Origin m₁ es t y → Origin m (e ∷ es) t y
@@ -75,10 +69,6 @@ pub cut : (h g : List Told) {m m' : Meaning} → Ran m (h ++ g) m' → (mid : Me
 cut [] g {m} {m'} r = (m, still, r)
 cut (e ∷ es) g (next s r) = let c = cut es g r in (c.0, next s c.1, c.2)
 
-pub joined : (e : Told) {m m₁ m₂ : Meaning} {h : List Told} → Ran m h m₁ → Sent m₁ e m₂ → Ran m (h ++ (e ∷ [])) m₂
-joined e still s = next s still
-joined e (next a r) s = next a (joined e r s)
-
 -- the ticket that a collect answers
 gave : (t mask : ℕ) (g b : List ℕ) {m m' : Meaning} → Change m (told.collect t g (Ok mask) b) m' → (x : Ticket) × (found t m.tickets ≡ Some x) × (mask ≡ x.mask) × (b ≡ x.bytes ++ drop (length x.bytes) g)
 gave t mask g b (ignored a c w n) = absurd (true≢false (sym (eq-eqb t t refl) ∙ c t))
@@ -88,7 +78,7 @@ read_kind : (n : ℕ) (k : Kind) → kind_of n ≡ Some k → n ≡ 0 → k ≡ 
 read_kind n k e z = let f : Some Read ≡ Some k = ap kind_of (sym z) ∙ e in cc
 
 ticket_for : (m mid : Meaning) (before : List Told) (t mask : ℕ) (buffer rest : List ℕ) (y : Ticket) → m.tickets ≡ [] → Whole m → mask ≡ y.mask → buffer ≡ y.bytes ++ rest → Origin m before t y → TicketFor m.bad m.disk before t mask buffer
-ticket_for m mid before t mask buffer rest y z w a b (old l u) = absurd (none_some (found t []) l.0 refl (ap (λ ts. found t ts) (sym z) ∙ l.1))
+ticket_for m mid before t mask buffer rest y z w a b (old l u) = cc (ap (λ ts. found t ts) (sym z) ∙ l.1)
 ticket_for m mid before t mask buffer rest y z w a b (made earlier q d tick since then k p g u r f mk by) =
     record {
       earlier = earlier;
@@ -124,7 +114,7 @@ closed t mask g b (ignored a c w n) o = absurd (true≢false (sym (eq-eqb t t re
 closed t mask g b (gives {m = m} x f a c) o = found_without_same t m.tickets o
 
 fresh : (m : Meaning) (h : List Told) (t : ℕ) (y : Ticket) → found t m.tickets ≡ None → Origin m h t y → AcceptedIn t h
-fresh m h t y n (old l u) = absurd (none_some _ l.0 n l.1)
+fresh m h t y n (old l u) = cc l.1
 fresh m h t y n (made earlier q d tick since mid k p g u r f a b) = record { earlier = earlier; request = q; given = d; tick = tick; since = since; accepted = p; same_tag = g }
 
 between_answers : (between after : List Told) (t mask mask' : ℕ) (g g' b b' : List ℕ) {m m' : Meaning} → Once m.tickets → Ran m (told.collect t g (Ok mask) b ∷ (between ++ (told.collect t g' (Ok mask') b' ∷ after))) m' → AcceptedIn t between

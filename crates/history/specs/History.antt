@@ -1,5 +1,6 @@
 -- A history is a list of submits, turns and collects with their answers, the oldest first. What it says of tickets and writes.
-use Rattle.std.specs.Prelude.{◌≡◌, ℕ, ◌+◌, ◌-◌, Bool, false, cond, not, ◌&&◌, ◌||◌, List, [], ◌∷◌, ◌++◌, Some, None, Ok, Err, Option, ◌==◌}
+use Rattle.std.specs.Prelude.{◌≡◌, ℕ, ◌+◌, ◌-◌, Bool, false, cond, not, ◌&&◌, ◌||◌, List, [], ◌∷◌, ◌++◌, Some, None, Ok, Err, Option, unwrap_or, ◌==◌}
+use Rattle.std.specs.Option.{option_or}
 use Rattle.device.specs.declared.interface.Kind.TheVariants.{Write}
 use Rattle.device.specs.Told.{Told, submit, turn, collect}
 use Rattle.device.specs.Meaning.{Contents, covers, part}
@@ -69,20 +70,11 @@ writes s (submit q d k (Err r)) = None
 writes s (turn k n) = None
 writes s (collect t g r b) = None
 
--- the later of two
-abbrev pub later : {A : Type 0} → Option A → Option A → Option A
-later earlier (Some x) = Some x
-later earlier None = earlier
-
 -- the last accepted write that covers the sector
 abbrev pub last_write : ℕ → List Told → Option (List ℕ)
 last_write s [] = None
-last_write s (e ∷ es) = later (writes s e) (last_write s es)
-
-abbrev pub or_else : Option (List ℕ) → List ℕ → List ℕ
-or_else (Some d) l = d
-or_else None l = l
+last_write s (e ∷ es) = option_or (last_write s es) (writes s e)
 
 -- what the last accepted write put on the sector, or what the disk had at set-up where there was none
 abbrev pub last_written : Contents → List Told → ℕ → List ℕ
-last_written disk h s = or_else (last_write s h) (disk s)
+last_written disk h s = unwrap_or (last_write s h) (disk s)

@@ -1,5 +1,5 @@
 -- A log of the calls that were sent to a device: how it is tied to the device, and what it promises.
-use Rattle.std.specs.Prelude.{◌≡◌, ◌≤◌, List, [], ◌∷◌, ◌++◌, vec_items, Vec}
+use Rattle.std.specs.Prelude.{◌≡◌, ◌≤◌, List, [], ◌∷◌, ◌++◌, map, flat_map, vec_items, Vec}
 use Rattle.std.specs.declared.alloc.Global.{Global}
 use Rattle.device.specs.Meaning.{Meaning}
 use Rattle.device.specs.Told.{Told, submit, turn, collect}
@@ -25,8 +25,7 @@ call_of (events.Homed s h) = calls.Home s
 call_of (events.Faulted f k x) = calls.Fault f k
 
 abbrev pub calls_of : List Event → List Call
-calls_of [] = []
-calls_of (e ∷ es) = call_of e ∷ calls_of es
+calls_of es = map call_of es
 
 -- what an entry adds to the history; a question adds nothing
 abbrev pub told : Event → List Told
@@ -38,8 +37,7 @@ told (events.Homed s h) = []
 told (events.Faulted f k x) = []
 
 abbrev pub history_of : List Event → List Told
-history_of [] = []
-history_of (e ∷ es) = told e ++ history_of es
+history_of es = flat_map told es
 
 -- the device went from d to d' by the call, as it was told, with that answer; by a question it stays as it is
 abbrev pub Step : {D : Type 0} → (D → Meaning) → (D → Told → D → Type 0) → D → Event → D → Type 0

@@ -1,5 +1,5 @@
 -- What every device promises of every history, if it had no open ticket at set-up.
-use Rattle.std.specs.Prelude.{◌≡◌, ℕ, ◌+◌, ◌<◌, ◌≤◌, Bool, true, false, List, [], ◌∷◌, ◌++◌, Ok}
+use Rattle.std.specs.Prelude.{◌≡◌, ℕ, ◌+◌, ◌<◌, ◌≤◌, Bool, true, false, List, ◌∷◌, ◌++◌, map, Ok}
 use Rattle.device.specs.declared.interface.Kind.TheVariants.{Read}
 use Rattle.device.specs.declared.interface.Request.{Request}
 use Rattle.device.specs.Meaning.{Meaning, Ticket, Contents, part, mask_of}
@@ -11,8 +11,7 @@ use Rattle.history.specs.History.{turns, NoneAccepted, NotAccepted, NotAnswered,
 use Rattle.history.specs.Steps.{Ran}
 
 abbrev pub tags : List Ticket → List ℕ
-tags [] = []
-tags (x ∷ xs) = x.tag ∷ tags xs
+tags ts = map (λ (x : Ticket). x.tag) ts
 
 -- The ticket that an answer is for: the last one accepted under the tag before it, and not answered before. The answer is
 -- the mask of the ticket's run and, where the ticket is a read, shows at each good sector the last write accepted before the

@@ -1,5 +1,5 @@
 -- The open tickets as a list of tags and states.
-use Rattle.std.specs.Prelude.{ℕ, ◌+◌, List, [], ◌∷◌}
+use Rattle.std.specs.Prelude.{ℕ, ◌+◌, List, [], ◌∷◌, map}
 use Rattle.device.specs.declared.interface.State.{State}
 use Rattle.device.specs.declared.interface.State.TheVariants as states
 use Rattle.device.specs.Meaning.{Ticket}
@@ -7,12 +7,10 @@ use Rattle.device.specs.Questions.{state_by}
 use Rattle.history.specs.declared.call.OpenTicket.{OpenTicket}
 
 abbrev pub open_list : List Ticket → List OpenTicket
-open_list [] = []
-open_list (x ∷ xs) = record { tag = x.tag; state = state_by x.ready } ∷ open_list xs
+open_list ts = map (λ (x : Ticket). record { tag = x.tag; state = state_by x.ready }) ts
 
 abbrev pub tags_in : List OpenTicket → List ℕ
-tags_in [] = []
-tags_in (x ∷ xs) = x.tag ∷ tags_in xs
+tags_in xs = map (λ (x : OpenTicket). x.tag) xs
 
 abbrev pub is_waiting : State → ℕ
 is_waiting states.NotOpen = 0

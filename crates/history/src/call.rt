@@ -2,7 +2,7 @@
 use device::{Fault, Home, Refusal, Request, State};
 
 /// A call to be sent to a device. The last three are questions, which change nothing.
-#[derive(Drop)]
+#[derive(Debug, Drop)]
 pub enum Call {
     Submit {
         request: Request,
@@ -27,14 +27,15 @@ pub enum Call {
 }
 
 /// An open ticket as a device names it.
-#[derive(Clone, Copy)]
+#[derive(Clone, Copy, PartialEq, Eq, Debug)]
 pub struct OpenTicket {
     pub tag: u32,
     pub state: State,
 }
 
+// Not a `Call` with an answer beside it: such a type could hold a turn with the answer of a collect.
 /// A call that was sent, with what the device answered. A collect was given one buffer and left the other.
-#[derive(Drop)]
+#[derive(Debug, Drop)]
 pub enum Event {
     Submitted {
         request: Request,

@@ -8,15 +8,13 @@ use std::alloc::{AllocError, Global};
 
 /// The open tickets, the oldest first, each with its state.
 pub fn open_list<D: Device>(heap: Global, device: &D) -> Result<Vec<OpenTicket>, AllocError>
-    ensures { D.kept device.now → IfOk result (λ v. v.items ≡ open_list (D.meaning device.now).tickets) }
+    ensures { IfOk result (λ v. v.items ≡ open_list (D.meaning device.now).tickets) }
 {
-    let mut list = Vec::new(heap);
-    let open = device.open_tickets();
-    for i in 0..open {
-        if let Some(tag) = device.tag_at(i) {
-            let state = device.state(tag);
-            list.push(OpenTicket { tag, state })?;
-        }
-    }
-    Ok(list)
+    (0..device.open_tickets())
+        .filter_map(|i| device.tag_at(i))
+        .map(|tag| OpenTicket {
+            tag,
+            state: device.state(tag),
+        })
+        .collect(heap)
 }

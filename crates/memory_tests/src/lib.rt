@@ -3,7 +3,7 @@
 
 #[cfg(test)]
 mod tests {
-    use device::{Device, Refusal, Request, fault_at};
+    use device::{Cause, Device, Fault, Home, Kind, Request, fault_at};
     use memory_disk::MemoryDisk;
     use std::process::Abort;
     use std::test::Fail;
@@ -11,60 +11,57 @@ mod tests {
     // numbers that name no sector
     const NONE: [u32; 8] = [65536; 8];
 
-    // One submit: what is asked, how many bytes come with it, and the refusal's number, 0 for accepted.
-    #[derive(Clone, Copy)]
-    struct Row {
-        tag: u32,
-        kind: u8,
-        first: u32,
-        count: u32,
-        given: usize,
-        answer: u8,
-    }
+    // A request, how many bytes come with it, and what its submit answers.
+    type Row = (Request, usize, Result<(), Cause>);
 
-    fn ask(tag: u32, kind: u8, first: u32, count: u32, given: usize, answer: u8) -> Row {
-        Row {
+    // A request whose kind is any number, and then one of each kind.
+    fn request(tag: u32, kind: u8, first: u32, count: u32) -> Request {
+        Request {
             tag,
             kind,
             first,
             count,
-            given,
-            answer,
         }
     }
 
-    fn number<T: Drop>(answer: Result<T, Refusal>) -> u8 {
-        match answer {
-            Ok(_) => 0,
-            Err(refusal) => refusal.cause.number(),
-        }
+    fn read(tag: u32, first: u32, count: u32) -> Request {
+        request(tag, Kind::Read.into(), first, count)
     }
 
-    fn submit<D: Device>(device: &mut D, row: &Row) -> u8 {
+    fn write(tag: u32, first: u32, count: u32) -> Request {
+        request(tag, Kind::Write.into(), first, count)
+    }
+
+    fn flush(tag: u32, first: u32, count: u32) -> Request {
+        request(tag, Kind::Flush.into(), first, count)
+    }
+
+    // What a submit with so many bytes answers.
+    // Its own, and not shared with the other examples: one sends wrong lengths, one serves a step, one sends what is due.
+    fn submit<D: Device>(device: &mut D, request: Request, given: usize) -> Result<(), Cause> {
         let data = [7u8; 2048];
-        let given = row.given.min(2048);
-        let request = Request {
-            tag: row.tag,
-            kind: row.kind,
-            first: row.first,
-            count: row.count,
-        };
-        number(device.submit(request, &data[0..given], 0))
+        let bytes = &data[..given.min(data.len())];
+        device
+            .submit(request, bytes, 0)
+            .map_err(|refusal| refusal.cause)
     }
 
     fn submit_all<D: Device>(rt: &impl Abort, device: &mut D, rows: &[Row]) {
-        for row in rows {
-            assert_eq!(rt; submit(device, row), row.answer);
+        for (request, given, answer) in rows {
+            assert_eq!(rt; submit(device, *request, *given), *answer, "at {request:?}");
         }
     }
 
     // What a collect into so much room answers.
-    fn collect<D: Device>(device: &mut D, tag: u32, room: usize) -> u8 {
+    fn collect<D: Device>(device: &mut D, tag: u32, room: usize) -> Result<u8, Cause> {
         let mut buffer = [9u8; 256];
-        number(device.collect(tag, &mut buffer[0..room.min(256)]))
+        let room = room.min(buffer.len());
+        device
+            .collect(tag, &mut buffer[..room])
+            .map_err(|refusal| refusal.cause)
     }
 
-    // Each number alone, on 8 sectors.
+    // Each cause alone, on 8 sectors.
     #[test]
     fn submits_are_refused(rt: HostRuntime) -> Result<(), Fail> {
         let mut bytes = [0u8; 1024];
@@ -73,24 +70,24 @@ mod tests {
             &rt,
             &mut disk,
             &[
-                ask(1, 3, 0, 1, 0, 1),
-                ask(1, 0, 0, 0, 0, 2),
-                ask(1, 1, 0, 9, 1152, 2),
-                ask(1, 2, 1, 0, 0, 2),
-                ask(1, 2, 0, 1, 0, 2),
-                ask(1, 0, 1, 8, 0, 3),
-                ask(1, 0, 4294967295, 8, 0, 3),
-                ask(1, 1, 0, 1, 127, 4),
-                ask(1, 0, 0, 1, 1, 4),
-                ask(1, 2, 0, 0, 1, 4),
-                ask(1, 0, 0, 8, 0, 0),
-                ask(1, 1, 0, 8, 1024, 5),
+                (request(1, 3, 0, 1), 0, Err(Cause::BadKind)),
+                (read(1, 0, 0), 0, Err(Cause::BadCount)),
+                (write(1, 0, 9), 1152, Err(Cause::BadCount)),
+                (flush(1, 1, 0), 0, Err(Cause::BadCount)),
+                (flush(1, 0, 1), 0, Err(Cause::BadCount)),
+                (read(1, 1, 8), 0, Err(Cause::PastEnd)),
+                (read(1, 4294967295, 8), 0, Err(Cause::PastEnd)),
+                (write(1, 0, 1), 127, Err(Cause::BadLength)),
+                (read(1, 0, 1), 1, Err(Cause::BadLength)),
+                (flush(1, 0, 0), 1, Err(Cause::BadLength)),
+                (read(1, 0, 8), 0, Ok(())),
+                (write(1, 0, 8), 1024, Err(Cause::TagOpen)),
             ],
         );
         Ok(())
     }
 
-    // The smaller number wins: each row breaks all the rules from its number on.
+    // The smaller number wins: each row breaks all the rules from that of its cause on.
     #[test]
     fn the_smaller_number_wins(rt: HostRuntime) -> Result<(), Fail> {
         let mut bytes = [0u8; 1024];
@@ -99,22 +96,22 @@ mod tests {
             &rt,
             &mut disk,
             &[
-                ask(1, 0, 0, 1, 0, 0),
-                ask(2, 1, 7, 1, 128, 0),
-                ask(4294967295, 2, 0, 0, 0, 0),
-                ask(0, 0, 0, 8, 0, 0),
-                ask(1, 255, 9, 9, 1, 1),
-                ask(1, 1, 9, 9, 1, 2),
-                ask(1, 1, 8, 1, 1, 3),
-                ask(1, 1, 7, 1, 1, 4),
-                ask(1, 1, 7, 1, 128, 5),
-                ask(3, 1, 7, 1, 128, 6),
+                (read(1, 0, 1), 0, Ok(())),
+                (write(2, 7, 1), 128, Ok(())),
+                (flush(4294967295, 0, 0), 0, Ok(())),
+                (read(0, 0, 8), 0, Ok(())),
+                (request(1, 255, 9, 9), 1, Err(Cause::BadKind)),
+                (write(1, 9, 9), 1, Err(Cause::BadCount)),
+                (write(1, 8, 1), 1, Err(Cause::PastEnd)),
+                (write(1, 7, 1), 1, Err(Cause::BadLength)),
+                (write(1, 7, 1), 128, Err(Cause::TagOpen)),
+                (write(3, 7, 1), 128, Err(Cause::Full)),
             ],
         );
         Ok(())
     }
 
-    // 7 before 8 before 9, a tag used again after its collect, and buffers of no bytes.
+    // A tag that is not open before one that waits before a short buffer, a tag used again after its collect, and buffers of no bytes.
     #[test]
     fn collects_are_refused(rt: HostRuntime) -> Result<(), Fail> {
         let mut bytes = [5u8; 512];
@@ -122,17 +119,17 @@ mod tests {
         submit_all(
             &rt,
             &mut disk,
-            &[ask(1, 0, 2, 1, 0, 0), ask(2, 2, 0, 0, 0, 0)],
+            &[(read(1, 2, 1), 0, Ok(())), (flush(2, 0, 0), 0, Ok(()))],
         );
-        assert_eq!(rt; collect(&mut disk, 3, 0), 7);
-        assert_eq!(rt; collect(&mut disk, 1, 0), 8);
+        assert_eq!(rt; collect(&mut disk, 3, 0), Err(Cause::NotOpen));
+        assert_eq!(rt; collect(&mut disk, 1, 0), Err(Cause::Waits));
         assert_eq!(rt; disk.turn(4294967295), 1);
-        assert_eq!(rt; collect(&mut disk, 1, 127), 9);
-        assert_eq!(rt; collect(&mut disk, 2, 0), 8);
-        assert_eq!(rt; collect(&mut disk, 1, 128), 0);
-        submit_all(&rt, &mut disk, &[ask(1, 1, 3, 1, 128, 0)]);
+        assert_eq!(rt; collect(&mut disk, 1, 127), Err(Cause::ShortBuffer));
+        assert_eq!(rt; collect(&mut disk, 2, 0), Err(Cause::Waits));
+        assert_eq!(rt; collect(&mut disk, 1, 128), Ok(0));
+        submit_all(&rt, &mut disk, &[(write(1, 3, 1), 128, Ok(()))]);
         assert_eq!(rt; disk.turn(0), 1);
-        assert_eq!(rt; collect(&mut disk, 2, 0), 0);
+        assert_eq!(rt; collect(&mut disk, 2, 0), Ok(0));
         Ok(())
     }
 
@@ -142,9 +139,9 @@ mod tests {
         let mut bytes = [5u8; 512];
         let mut disk = MemoryDisk::new(rt.alloc(), &mut bytes, NONE)?;
         let mut buffer = [9u8; 130];
-        submit_all(&rt, &mut disk, &[ask(1, 0, 2, 1, 0, 0)]);
+        submit_all(&rt, &mut disk, &[(read(1, 2, 1), 0, Ok(()))]);
         assert_eq!(rt; disk.turn(0), 1);
-        assert_eq!(rt; disk.collect(1, &mut buffer).unwrap_or(1), 0);
+        assert_eq!(rt; disk.collect(1, &mut buffer), Ok(0));
         assert_eq!(rt; buffer[127], 5);
         assert_eq!(rt; buffer[128], 9);
         Ok(())
@@ -159,7 +156,10 @@ mod tests {
         submit_all(
             &rt,
             &mut empty,
-            &[ask(1, 0, 0, 1, 0, 3), ask(1, 2, 0, 0, 0, 0)],
+            &[
+                (read(1, 0, 1), 0, Err(Cause::PastEnd)),
+                (flush(1, 0, 0), 0, Ok(())),
+            ],
         );
         let mut part = [0u8; 255];
         assert_eq!(rt; MemoryDisk::new(rt.alloc(), &mut part, NONE)?.size(), 1);
@@ -169,7 +169,10 @@ mod tests {
         submit_all(
             &rt,
             &mut disk,
-            &[ask(1, 1, 65528, 8, 1024, 0), ask(2, 0, 65529, 8, 0, 3)],
+            &[
+                (write(1, 65528, 8), 1024, Ok(())),
+                (read(2, 65529, 8), 0, Err(Cause::PastEnd)),
+            ],
         );
         assert_eq!(rt; disk.turn(0), 1);
         drop(disk);
@@ -198,12 +201,12 @@ mod tests {
         submit_all(
             &rt,
             &mut disk,
-            &[ask(1, 1, 1, 8, 1024, 0), ask(2, 0, 2, 8, 0, 0)],
+            &[(write(1, 1, 8), 1024, Ok(())), (read(2, 2, 8), 0, Ok(()))],
         );
         assert_eq!(rt; disk.turn(0), 1);
         assert_eq!(rt; disk.turn(0), 1);
-        assert_eq!(rt; disk.collect(1, &mut []).unwrap_or(0), 255);
-        assert_eq!(rt; disk.collect(2, &mut buffer).unwrap_or(0), 127);
+        assert_eq!(rt; disk.collect(1, &mut []), Ok(255));
+        assert_eq!(rt; disk.collect(2, &mut buffer), Ok(127));
         assert_eq!(rt; buffer[895], 0);
         assert_eq!(rt; buffer[896], 5);
         drop(disk);
@@ -216,12 +219,21 @@ mod tests {
     fn faults(rt: HostRuntime) -> Result<(), Fail> {
         let mut bytes = [0u8; 1280];
         let disk = MemoryDisk::new(rt.alloc(), &mut bytes, NONE)?;
-        assert!(rt; fault_at(&disk, 0, 0).is_none());
-        let inside = fault_at(&disk, 3, 0b1010_0100).ok_or("no fault")?;
-        assert_eq!(rt; inside.bad, 3);
-        assert_eq!(rt; inside.lowest.ok_or("no home")?.sector, 5);
-        let past = fault_at(&disk, 4294967295, 128).ok_or("no fault")?;
-        assert!(rt; past.lowest.is_none());
+        assert_eq!(rt; fault_at(&disk, 0, 0), None);
+        let home = Home {
+            height: 0,
+            sector: 5,
+        };
+        let inside = Fault {
+            lowest: Some(home),
+            bad: 3,
+        };
+        assert_eq!(rt; fault_at(&disk, 3, 0b1010_0100), Some(inside));
+        let past = Fault {
+            lowest: None,
+            bad: 1,
+        };
+        assert_eq!(rt; fault_at(&disk, 4294967295, 128), Some(past));
         Ok(())
     }
 }

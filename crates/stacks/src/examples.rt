@@ -1,8 +1,10 @@
 // What stacks of layers answer.
-ghost use Rattle.std.specs.Prelude.{[]};
-ghost use Rattle.memory_disk.specs.Means.{set_up};
+ghost use Rattle.std.specs.Prelude.{◌≤◌};
+ghost use Rattle.device.specs.Sound.{most_height};
+ghost use Rattle.stacks.specs.Tall.{tall};
+ghost use Rattle.stacks.specs.SoundFacts.{sound_tall};
 
-use device::{Device, Home, Refusal, Request, State};
+use device::{Cause, Device, Home, Kind, RUN_BYTES, Refusal, Request, SECTOR, State, examine};
 use drive::Drive;
 use memory_disk::MemoryDisk;
 use mirror::Mirror;
@@ -12,37 +14,37 @@ use std::test::Fail;
 // numbers that name no sector
 const NONE: [u32; 8] = [65536; 8];
 
-fn number<T: Drop>(answer: Result<T, Refusal>) -> u8 {
-    match answer {
-        Ok(_) => 0,
-        Err(refusal) => refusal.cause.number(),
-    }
-}
-
 // What a submit answers, with a write's data.
-fn submit<D: Device>(device: &mut D, tag: u32, kind: u8, first: u32, count: u32) -> u8 {
-    let data = [5u8; 1024];
-    let given = if kind == 1 {
-        count.min(8) as usize * 128
-    } else {
-        0
-    };
+// Its own, and not shared with the other examples: one sends wrong lengths, one serves a step, one sends what is due.
+fn submit<D: Device>(
+    device: &mut D,
+    tag: u32,
+    kind: Kind,
+    first: u32,
+    count: u32,
+) -> Result<(), Cause> {
+    let data = [5; RUN_BYTES];
+    let given = kind.due_length(count).min(RUN_BYTES);
     let request = Request {
         tag,
-        kind,
+        kind: u8::from(kind),
         first,
         count,
     };
-    number(device.submit(request, &data[0..given], 0))
+    device
+        .submit(request, &data[..given], 0)
+        .map_err(|refusal| refusal.cause)
 }
 
-// Submits a read of a sector, turns, and collects; the mask, and the byte in the sector's middle.
-fn read<D: Device>(device: &mut D, sector: u32) -> (u8, u8) {
-    let mut buffer = [238u8; 128];
-    let _ = submit(device, 77, 0, sector, 1);
+// Submits a read of a sector, turns, and collects; the answer, and the byte in the sector's middle.
+fn read<D: Device>(device: &mut D, sector: u32) -> (Result<u8, Cause>, u8) {
+    let mut buffer = [238; SECTOR];
+    let _ = submit(device, 77, Kind::Read, sector, 1);
     let _ = device.turn(0);
-    let mask = device.collect(77, &mut buffer).unwrap_or(99);
-    (mask, buffer[64])
+    let answer = device
+        .collect(77, &mut buffer)
+        .map_err(|refusal| refusal.cause);
+    (answer, buffer[64])
 }
 
 // An offset of an offset: sector 0 is sector 3 below, and the home comes up shifted.
@@ -62,9 +64,12 @@ fn offset_of_offset(rt: HostRuntime) -> Result<(), Fail> {
         })
     );
     assert_eq!(rt; stack.home(4), None);
-    assert_eq!(rt; submit(&mut stack, 1, 1, 0, 4), 0);
-    assert_eq!(rt; submit(&mut stack, 2, 2, 0, 0), 0);
-    assert_eq!(rt; submit(&mut stack, 3, 0, 1, 4), 3);
+    assert_eq!(rt; submit(&mut stack, 1, Kind::Write, 0, 4), Ok(()));
+    assert_eq!(rt; submit(&mut stack, 2, Kind::Flush, 0, 0), Ok(()));
+    assert_eq!(rt;
+        submit(&mut stack, 3, Kind::Read, 1, 4),
+        Err(Cause::PastEnd)
+    );
     assert_eq!(rt; stack.turn(0), 1);
     drop(stack);
     assert_eq!(rt; bytes[383], 0);
@@ -99,13 +104,14 @@ fn base_past_the_end(rt: HostRuntime) -> Result<(), Fail> {
 fn open_below(rt: HostRuntime) -> Result<(), Fail> {
     let mut bytes = [0u8; 512];
     let mut disk = MemoryDisk::new(rt.alloc(), &mut bytes, NONE)?;
-    assert_eq!(rt; submit(&mut disk, 1, 0, 0, 1), 0);
+    assert_eq!(rt; submit(&mut disk, 1, Kind::Read, 0, 1), Ok(()));
     let mut stack = Offset::new(Offset::new(disk, 0, 4), 0, 4);
     assert_eq!(rt; stack.capacity(), 0);
     assert_eq!(rt; stack.open_tickets(), 0);
     assert_eq!(rt; stack.turn(0), 0);
-    assert_eq!(rt; submit(&mut stack, 1, 0, 0, 1), 6);
-    assert_eq!(rt; number(stack.collect(1, &mut [])), 7);
+    assert_eq!(rt; submit(&mut stack, 1, Kind::Read, 0, 1), Err(Cause::Full));
+    let refused = stack.collect(1, &mut []).map_err(|refusal| refusal.cause);
+    assert_eq!(rt; refused, Err(Cause::NotOpen));
     Ok(())
 }
 
@@ -127,12 +133,9 @@ fn unequal_sides(rt: HostRuntime) -> Result<(), Fail> {
             sector: 4,
         })
     );
-    let (mask, byte) = read(&mut stack, 2);
-    assert!(rt; mask == 0 && byte == 9);
-    let (mask, byte) = read(&mut stack, 3);
-    assert!(rt; mask == 1 && byte == 0);
-    let (mask, byte) = read(&mut stack, 4);
-    assert!(rt; mask == 0 && byte == 7);
+    assert_eq!(rt; read(&mut stack, 2), (Ok(0), 9));
+    assert_eq!(rt; read(&mut stack, 3), (Ok(1), 0));
+    assert_eq!(rt; read(&mut stack, 4), (Ok(0), 7));
     Ok(())
 }
 
@@ -147,38 +150,35 @@ fn mirror_of_mirrors(rt: HostRuntime) -> Result<(), Fail> {
     let c = MemoryDisk::new(rt.alloc(), &mut three, NONE)?;
     let mut stack = Mirror::new(Mirror::new(a, b), c);
     assert_eq!(rt; stack.size(), 3);
-    assert_eq!(rt; submit(&mut stack, 1, 1, 0, 1), 0);
-    assert_eq!(rt; submit(&mut stack, 2, 2, 0, 0), 0);
+    assert_eq!(rt; submit(&mut stack, 1, Kind::Write, 0, 1), Ok(()));
+    assert_eq!(rt; submit(&mut stack, 2, Kind::Flush, 0, 0), Ok(()));
     assert_eq!(rt; stack.turn(0), 2);
     assert_eq!(rt; stack.turn(0), 0);
-    let (mask, byte) = read(&mut stack, 1);
-    assert!(rt; mask == 0 && byte == 3);
-    let (mask, byte) = read(&mut stack, 0);
-    assert!(rt; mask == 0 && byte == 5);
+    assert_eq!(rt; read(&mut stack, 1), (Ok(0), 3));
+    assert_eq!(rt; read(&mut stack, 0), (Ok(0), 5));
     Ok(())
 }
 
-// A stand-in that keeps nothing: it only stands as high as a device may.
+// A device of no sectors and no room for tickets, that only stands as high as a device may.
 #[derive(Drop)]
 struct Tall {
     height: u8,
+    ghost low: { height ≤ most_height },
 }
 
 impl Device for Tall {
-    ghost meaning = { λ _. set_up [] [] };
+    ghost meaning = { λ d. tall d.height };
 
-    ghost kept = { λ _. ⊥ };
-
-    ghost sound = { λ d k. absurd k };
+    ghost sound = { λ d. sound_tall d.height d.low };
 
     ghost does = { λ _ _ _. Unit {0} };
 
     fn size(&self) -> u32 {
-        1
+        0
     }
 
     fn capacity(&self) -> u32 {
-        1
+        0
     }
 
     fn height(&self) -> u8 {
@@ -205,8 +205,14 @@ impl Device for Tall {
         None
     }
 
-    fn submit(&mut self, _request: Request, _bytes: &[u8], _tick: u32) -> Result<(), Refusal> {
-        Ok(())
+    fn submit(&mut self, request: Request, bytes: &[u8], _tick: u32) -> Result<(), Refusal> {
+        let cause = examine(request, bytes.len(), 0)
+            .err()
+            .unwrap_or(Cause::Full);
+        Err(Refusal {
+            cause,
+            height: self.height,
+        })
     }
 
     fn turn(&mut self, _tick: u32) -> u32 {
@@ -214,7 +220,10 @@ impl Device for Tall {
     }
 
     fn collect(&mut self, _tag: u32, _buffer: &mut [u8]) -> Result<u8, Refusal> {
-        Ok(0)
+        Err(Refusal {
+            cause: Cause::NotOpen,
+            height: self.height,
+        })
     }
 }
 

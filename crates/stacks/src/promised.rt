@@ -10,6 +10,7 @@ use mirror::Mirror;
 use offset::Offset;
 use std::alloc::{AllocError, Global};
 
+// Seven parameters, each of which goes to another part of the stack: no two of them travel together anywhere else.
 /// Sends the calls to an offset over a mirror of a drive and a memory disk, which lie over the bytes that are lent.
 pub fn play_on_stack(
     heap: Global,
