@@ -71,7 +71,9 @@ impl<'a> Buffer<'a> {
         // By place: after `as_chunks_mut` a proof knows how long the bytes are, and not what they are.
         for i in 0..count {
             let to = i as usize * SECTOR;
-            into[to..to + SECTOR].copy_from_slice(self.read_sector(first + i));
+            let shown = self.read_sector(first + i);
+            // All of it: a length that is told in the code is copied without a call.
+            into[to..to + SECTOR].copy_from_slice(&shown[..SECTOR]);
         }
     }
 
@@ -80,6 +82,8 @@ impl<'a> Buffer<'a> {
         ensures entries { self.new.entries.items ≡ eased self.old.entries.items }
         ensures bytes { self.new.row.bytes.now ≡ pushed_out self.old.row.named self.old.entries.items self.old.row.bytes.now }
         ensures named { self.new.row.named ≡ self.old.row.named }
+        ensures capacity { deque_capacity self.new.entries ≡ deque_capacity self.old.entries }
+        ensures same_reference { self.new.row.bytes.ghost_name ≡ self.old.row.bytes.ghost_name }
     {
         let Buffer { row, entries } = self;
         if entries.len() == BUFFERED
@@ -96,6 +100,8 @@ impl<'a> Buffer<'a> {
         ensures entries { self.new.entries.items ≡ (if listed sector self.old.row.named then self.old.entries.items else brought_in sector bytes.now self.old.entries.items) }
         ensures bytes { self.new.row.bytes.now ≡ (if listed sector self.old.row.named then self.old.row.bytes.now else put_out self.old.row.named sector self.old.entries.items self.old.row.bytes.now) }
         ensures named { self.new.row.named ≡ self.old.row.named }
+        ensures capacity { deque_capacity self.new.entries ≡ deque_capacity self.old.entries }
+        ensures same_reference { self.new.row.bytes.ghost_name ≡ self.old.row.bytes.ghost_name }
     {
         if is_named(&self.row.named, sector as usize) {
             return;
@@ -121,6 +127,8 @@ impl<'a> Buffer<'a> {
         ensures entries { self.new.entries.items ≡ brought_run self.old.row.named first count bytes.now self.old.entries.items }
         ensures bytes { self.new.row.bytes.now ≡ put_out_run self.old.row.named first count bytes.now self.old.entries.items self.old.row.bytes.now }
         ensures named { self.new.row.named ≡ self.old.row.named }
+        ensures capacity { deque_capacity self.new.entries ≡ deque_capacity self.old.entries }
+        ensures same_reference { self.new.row.bytes.ghost_name ≡ self.old.row.bytes.ghost_name }
     {
         let (parts, _) = bytes.as_chunks::<SECTOR>();
         for (i, part) in parts[..count as usize].iter().enumerate() {
@@ -133,6 +141,8 @@ impl<'a> Buffer<'a> {
         ensures entries { self.new.entries.items ≡ [] }
         ensures bytes { self.new.row.bytes.now ≡ put_all self.old.row.named self.old.entries.items self.old.row.bytes.now }
         ensures named { self.new.row.named ≡ self.old.row.named }
+        ensures capacity { deque_capacity self.new.entries ≡ deque_capacity self.old.entries }
+        ensures same_reference { self.new.row.bytes.ghost_name ≡ self.old.row.bytes.ghost_name }
     {
         let Buffer { row, entries } = self;
         while let Some(oldest) = entries.pop_front() {

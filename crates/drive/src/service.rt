@@ -1,5 +1,6 @@
 // How a drive serves a ticket.
 ghost use Rattle.std.specs.Prelude.{◌≡◌, ℕ, ◌+◌, ◌*◌, ◌≤◌, length};
+ghost use Rattle.std.specs.VecDeque.{deque_capacity};
 ghost use Rattle.device.specs.Meaning.{sector_bytes, longest_run};
 ghost use Rattle.device.specs.Sound.{most_sectors};
 ghost use Rattle.tickets.specs.Front.{served};
@@ -37,6 +38,8 @@ fn serve(place: &mut Place, arm: &mut u32, buffer: &mut Buffer) -> u32
     ensures entries { buffer.new.entries.items ≡ entries_as place.old.kind buffer.old.row.named place.old buffer.old.entries.items }
     ensures bytes { buffer.new.row.bytes.now ≡ row_as place.old.kind buffer.old.row.named place.old buffer.old.entries.items buffer.old.row.bytes.now }
     ensures named { buffer.new.row.named ≡ buffer.old.row.named }
+    ensures capacity { deque_capacity buffer.new.entries ≡ deque_capacity buffer.old.entries }
+    ensures same_reference { buffer.new.row.bytes.ghost_name ≡ buffer.old.row.bytes.ghost_name }
 {
     place.ready = true;
     match place.kind {
@@ -66,6 +69,8 @@ impl Drive<'_> {
         ensures entries { self.new.buffer.entries.items ≡ turned_buffer self.old }
         ensures bytes { self.new.buffer.row.bytes.now ≡ turned_bytes self.old }
         ensures shape { SameFront self.old.front self.new.front }
+        ensures capacity { deque_capacity self.new.buffer.entries ≡ deque_capacity self.old.buffer.entries }
+        ensures same_reference { self.new.buffer.row.bytes.ghost_name ≡ self.old.buffer.row.bytes.ghost_name }
     {
         let Drive { front, arm, buffer } = self;
         let Some(i) = front.oldest_waiting() else {

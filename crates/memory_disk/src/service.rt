@@ -19,6 +19,7 @@ fn serve(place: &mut Place, row: &mut Row)
     ensures readies { place.new ≡ served (seen row.old.named row.old.bytes.now) place.old }
     ensures stores { row.new.bytes.now ≡ stored row.old.named place.old row.old.bytes.now }
     ensures named { row.new.named ≡ row.old.named }
+    ensures same_reference { row.new.bytes.ghost_name ≡ row.old.bytes.ghost_name }
 {
     match place.kind {
         Kind::Read => row.read_run(place.first, place.count, &mut place.bytes),
@@ -38,6 +39,7 @@ impl MemoryDisk<'_> {
         ensures places { places_of self.new.front ≡ places_as (oldest_of self.old.front) (seen self.old.front.named self.old.row.bytes.now) (places_of self.old.front) }
         ensures bytes { self.new.row.bytes.now ≡ turned_bytes self.old }
         ensures shape { SameFront self.old.front self.new.front }
+        ensures same_reference { self.new.row.bytes.ghost_name ≡ self.old.row.bytes.ghost_name }
     {
         let MemoryDisk { row, front } = self;
         let Some(i) = front.oldest_waiting() else {

@@ -90,6 +90,17 @@ impl Front {
         Ok(kind)
     }
 
+    /// Adds the ticket of an admitted request.
+    fn add(&mut self, request: Request, kind: Kind, bytes: &[u8])
+        requires { admission self.old request (length bytes.now) ≡ Ok kind }
+        ensures places { places_of self.new ≡ put_in (Ok kind) (places_of self.old) self.old.named request bytes.now }
+        ensures shape { SameFront self.old self.new }
+    {
+        let mask = mask(&self.named, request.first, request.count);
+        let place = Place::waiting(request, kind, mask, bytes);
+        self.places.push_reserved(place);
+    }
+
     /// Adds the ticket of a request, or refuses it at height 0.
     pub fn submit(&mut self, request: Request, bytes: &[u8]) -> Result<(), Refusal>
         ensures answers { result ≡ answer_as (admission self.old request (length bytes.now)) }
@@ -97,9 +108,7 @@ impl Front {
         ensures shape { SameFront self.old self.new }
     {
         let kind = self.admit(request, bytes.len()).map_err(at_bottom)?;
-        let mask = mask(&self.named, request.first, request.count);
-        let place = Place::waiting(request, kind, mask, bytes);
-        self.places.push_reserved(place);
+        self.add(request, kind, bytes);
         Ok(())
     }
 
@@ -126,9 +135,9 @@ impl Front {
         ensures shape { SameFront self.old self.new }
     {
         let i = self.due(tag, buffer.len()).map_err(at_bottom)?;
-        let place = self.places.remove(i);
-        place.hand_over(buffer);
-        Ok(place.mask)
+        self.places[i].hand_over(buffer);
+        let done = self.places.remove(i);
+        Ok(done.mask)
     }
 
     /// How far the ticket of a tag has come.

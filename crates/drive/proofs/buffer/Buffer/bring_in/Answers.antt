@@ -41,6 +41,8 @@ returns-in-Some c =
       entries = set_brought st c.index_mut.result.now c.args.bytes.now c.index_mut.ensures.value ∙ sym (cond-false _ _ _ good);
       bytes = none_out st b.row.named b.row.bytes.now ∙ sym (cond-false _ _ _ good);
       named = refl;
+      capacity = refl;
+      same_reference = refl;
     }
 
 pub returns-in-None : goal.returns-in-None
@@ -52,4 +54,6 @@ returns-in-None c =
       entries = push_brought c.args.sector es c.find.result c.find.ensures c.in-None.is _ _ c.args.bytes.now c.ease.ensures.entries c.push_back_reserved.ensures.items ∙ sym (cond-false _ _ _ good);
       bytes = oldest_out c.args.sector es c.find.result c.find.ensures c.in-None.is b.row.named b.row.bytes.now _ c.ease.ensures.bytes ∙ sym (cond-false _ _ _ good);
       named = c.ease.ensures.named;
+      capacity = c.push_back_reserved.ensures.capacity ∙ c.ease.ensures.capacity;
+      same_reference = c.ease.ensures.same_reference;
     }

@@ -25,4 +25,6 @@ loop-i-preserved c =
       c.bring_in.ensures.entries ∙ run_in c.args.first i c.args.bytes.now _ b.row.named _ (b.entries.items) _ b.row.bytes.now _ v.2 here v.0 v.1,
       c.bring_in.ensures.bytes ∙ run_out c.args.first i c.args.bytes.now _ b.row.named _ (b.entries.items) _ b.row.bytes.now _ v.2 here v.0 v.1,
       c.bring_in.ensures.named ∙ v.2,
+      c.bring_in.ensures.capacity ∙ v.3,
+      c.bring_in.ensures.same_reference ∙ v.4,
     )

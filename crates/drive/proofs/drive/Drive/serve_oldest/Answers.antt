@@ -67,4 +67,6 @@ returns c =
       entries = c.serve.ensures.entries ∙ (ap (λ n. entries_as p.kind n p es) d.named ∙ (ap (λ x. entries_as x.kind named x es) is ∙ sym (ap (λ o. turn_entries o named ps es) e)));
       bytes = c.serve.ensures.bytes ∙ (ap (λ n. row_as p.kind n p es row) d.named ∙ (ap (λ x. row_as x.kind named x es row) is ∙ sym (ap (λ o. turn_row o named ps es row) e)));
       shape = search rules;
+      capacity = c.serve.ensures.capacity;
+      same_reference = c.serve.ensures.same_reference;
     }
