@@ -42,7 +42,7 @@ pub open_alike : (t : ℕ) {xs ys : List Ticket} → Pairs xs ys → tag_is_open
 open_alike t Pairs.none = refl
 open_alike t (Pairs.more l h) = cc (open_alike t h)
 
-distinct_alike : {xs ys : List Ticket} → Pairs xs ys → distinct ys ≡ distinct xs
+pub distinct_alike : {xs ys : List Ticket} → Pairs xs ys → distinct ys ≡ distinct xs
 distinct_alike Pairs.none = refl
 distinct_alike (Pairs.more {x} l h) = cc (open_alike x.tag h, distinct_alike h)
 
@@ -54,7 +54,7 @@ flush_free_alike : {xs ys : List Ticket} → Pairs xs ys → flush_free ys ≡ f
 flush_free_alike Pairs.none = refl
 flush_free_alike (Pairs.more l h) = cc (flush_free_alike h)
 
-flush_order_alike : {xs ys : List Ticket} → Pairs xs ys → flush_order ys ≡ flush_order xs
+pub flush_order_alike : {xs ys : List Ticket} → Pairs xs ys → flush_order ys ≡ flush_order xs
 flush_order_alike Pairs.none = refl
 flush_order_alike (Pairs.more l h) = cc (none_ready_alike h, flush_free_alike h, flush_order_alike h)
 
@@ -96,14 +96,20 @@ module _ (sa sb : ℕ) (p q : ℕ → Bool) where
     other = other_mixed x.kind (λ i. p (x.first + i)) x.count x.bytes y.bytes;
   }
 
-  each_paired : {xs ys : List Ticket} → Pairs xs ys → Each (WellFormed sa p) xs → Each (WellFormed sb q) ys → Each (WellFormed (min sa sb) (both p q)) (all_paired p q xs ys)
+  pub each_paired : {xs ys : List Ticket} → Pairs xs ys → Each (WellFormed sa p) xs → Each (WellFormed sb q) ys → Each (WellFormed (min sa sb) (both p q)) (all_paired p q xs ys)
   each_paired Pairs.none v w = tt
   each_paired (Pairs.more {x} {y} l h) v w = (well_paired x y l v.0 w.0, each_paired h v.1 w.1)
 
+bad_either : (b : Bool) (x y z : List ℕ) → b ≡ true → y ≡ z → cond b y x ≡ z
+bad_either b x y z e f = rw e f
+
 module _ (a b : Meaning) (v : Sound a) (w : Sound b) where
+  inside_both : (s : ℕ) → both a.bad b.bad s ≡ true → s < min a.size b.size
+  inside_both s h = let l = and_parts (a.bad s) (b.bad s) h in let i = v.bad_inside s l.0 in let j = w.bad_inside s l.1 in omega arith
+
   -- a sector that is bad on both sides shows what the right shows
   zero_both : (x y : Contents) → ((s : ℕ) → b.bad s ≡ true → y s ≡ zeros) → (s : ℕ) → both a.bad b.bad s ≡ true → either a.bad x y s ≡ zeros
-  zero_both x y e s h = let l = and_parts (a.bad s) (b.bad s) h in rw l.0 (e s l.1)
+  zero_both x y e s h = let l = and_parts (a.bad s) (b.bad s) h in bad_either (a.bad s) (x s) (y s) zeros l.0 (e s l.1)
 
   whole_both : (x y : Contents) → ((s : ℕ) → s < a.size → length (x s) ≡ 128) → ((s : ℕ) → s < b.size → length (y s) ≡ 128)
       → (s : ℕ) → s < min a.size b.size → length (either a.bad x y s) ≡ 128
@@ -121,8 +127,7 @@ module _ (a b : Meaning) (v : Sound a) (w : Sound b) where
         tags = distinct_alike g ∙ v.tags;
         tickets = each_paired a.size b.size a.bad b.bad h v.tickets w.tickets;
         flush_order = flush_order_alike g ∙ v.flush_order;
-        bad_inside = λ s e.
-            let l = and_parts (a.bad s) (b.bad s) e in let i = v.bad_inside s l.0 in let j = w.bad_inside s l.1 in omega arith;
+        bad_inside = inside_both;
         bad_disk = zero_both a.disk b.disk w.bad_disk;
         bad_medium = zero_both a.medium b.medium w.bad_medium;
         disk = whole_both a.disk b.disk v.disk w.disk;

@@ -4,7 +4,7 @@ ghost use Rattle.device.specs.Collect.{due};
 ghost use Rattle.device.specs.Meaning.{refused_by, run_bytes};
 ghost use Rattle.device.specs.Submit.{admitted};
 ghost use Rattle.gate.specs.Means.{gated};
-ghost use Rattle.mirror.specs.Means.{Level, room_due, set_up};
+ghost use Rattle.mirror.specs.Means.{Level, room_due, set_up, shut_both};
 ghost use Rattle.mirror.specs.LevelFacts.{Agree-prop};
 
 use device::{Cause, Device, Kind, Refusal, Request, State, examine};
@@ -19,12 +19,19 @@ pub struct Mirror<L: Device, R: Device> {
     ghost level: { Level (gated left.shut (L.meaning left.lower)) (gated right.shut (R.meaning right.lower)) } by { Prim.hlevel Agree-prop },
 }
 
+/// Whether a mirror of the sides only asks questions: one of them has open tickets, or no room for any.
+fn must_shut_both<L: Device, R: Device>(left: &L, right: &R) -> bool
+    ensures { result ≡ shut_both (L.meaning left.now) (R.meaning right.now) }
+{
+    must_shut(left) || must_shut(right)
+}
+
 impl<L: Device, R: Device> Mirror<L, R> {
     /// A mirror over two sides; over a side that has open tickets, or no room for any, it only asks questions.
     pub fn new(left: L, right: R) -> Mirror<L, R>
         ensures { ⟦<Mirror<L, R> as Device>⟧.meaning result ≡ set_up (L.meaning left) (R.meaning right) }
     {
-        let shut = must_shut(&left) || must_shut(&right);
+        let shut = must_shut_both(&left, &right);
         Mirror {
             left: Gate::new(left, shut),
             right: Gate::new(right, shut),

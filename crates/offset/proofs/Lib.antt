@@ -1,1 +1,1 @@
-mod OffsetCalls
+pub mod OffsetCalls

@@ -44,6 +44,22 @@ passed Q (Ok x) a k p e = cc
 passed Q (Err f) (Ok x) k p e = absurd p
 passed Q (Err f) (Err y) k p e = cc
 
+-- The height stays
+
+submitted_height : (r : Result Kind Cause) (m : Meaning) (q : Request) (d : List ℕ) → (submitted_as r m q d).height ≡ m.height
+submitted_height (Ok k) m q d = refl
+submitted_height (Err c) m q d = refl
+
+pub height_submitted : (m m' : Meaning) (q : Request) (d : List ℕ) → m' ≡ submitted m q d → m'.height ≡ m.height
+height_submitted m m' q d e = ap (λ (z : Meaning). z.height) e ∙ submitted_height (admitted m q (length d)) m q d
+
+collected_height : (r : Result Ticket Cause) (m : Meaning) (t : ℕ) → (collected_as r m t).height ≡ m.height
+collected_height (Ok x) m t = refl
+collected_height (Err c) m t = refl
+
+pub height_collected : (m m' : Meaning) (t space : ℕ) → m' ≡ collected m t space → m'.height ≡ m.height
+height_collected m m' t space e = ap (λ (z : Meaning). z.height) e ∙ collected_height (due m t space) m t
+
 -- Questions
 
 pub tag_at_shifted : (base i : ℕ) (ts : List Ticket) → tag_at i (map (shifted base) ts) ≡ tag_at i ts

@@ -27,7 +27,7 @@ module _ (base : ℕ) where
   open_shifted t [] = refl
   open_shifted t (x ∷ xs) = cc (open_shifted t xs)
 
-  distinct_shifted : (ts : List Ticket) → distinct (map (shifted base) ts) ≡ distinct ts
+  pub distinct_shifted : (ts : List Ticket) → distinct (map (shifted base) ts) ≡ distinct ts
   distinct_shifted [] = refl
   distinct_shifted (t ∷ ts) = cc (open_shifted t.tag ts, distinct_shifted ts)
 
@@ -43,7 +43,7 @@ module _ (base : ℕ) where
   flush_order_shifted [] = refl
   flush_order_shifted (t ∷ ts) = cc (none_ready_shifted ts, flush_free_shifted ts, flush_order_shifted ts)
 
-fair_shifted : (k : Kind) (base first count : ℕ) → fair_count k first count ≡ true → fair_count k (first - base) count ≡ true
+pub fair_shifted : (k : Kind) (base first count : ℕ) → fair_count k first count ≡ true → fair_count k (first - base) count ≡ true
 fair_shifted Read base first count h = h
 fair_shifted Write base first count h = h
 fair_shifted Flush base first count h = grind (arith, nat_tests)
@@ -87,7 +87,7 @@ module _ (base n size : ℕ) (bad : ℕ → Bool) where
         other = w.other;
       }
 
-  each_shifted : (ts : List Ticket) → Each (WellFormed size bad) ts → Each (Lies base n size) ts
+  pub each_shifted : (ts : List Ticket) → Each (WellFormed size bad) ts → Each (Lies base n size) ts
       → Each (WellFormed (room base n size) (bad_in base (room base n size) bad)) (map (shifted base) ts)
   each_shifted [] w l = tt
   each_shifted (t ∷ ts) w l = (

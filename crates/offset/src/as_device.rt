@@ -1,4 +1,6 @@
 // The offset as a device over any device.
+ghost use Rattle.std.specs.Prelude.{◌≡◌, ◌+◌, ◌-◌, ◌^◌, min, if◌then◌else◌};
+ghost use Rattle.device.specs.Meaning.{is_flush};
 ghost use Rattle.offset.specs.Means.{over};
 ghost use Rattle.offset.specs.Turn.{Acts};
 ghost use Rattle.offset.specs.SoundFacts.{over_sound};
@@ -6,6 +8,16 @@ ghost use Rattle.offset.specs.SoundFacts.{over_sound};
 use crate::offset::Offset;
 use device::{Device, Home, Kind, Refusal, Request, State, examine, layer_height};
 use gate::Gate;
+
+/// Where a request of the kind begins below: a flush has no sectors.
+fn lowered(base: u32, kind: Kind, first: u32) -> u32
+    ensures { result ≡ (if is_flush kind then 0 else min (base + first) (2 ^ 32 - 1)) }
+{
+    match kind {
+        Kind::Read | Kind::Write => base.saturating_add(first),
+        Kind::Flush => 0,
+    }
+}
 
 impl<D: Device> Device for Offset<D> {
     ghost meaning = { λ d. over d.base d.most (⟦<Gate<D> as Device>⟧.meaning d.lower) };
@@ -51,18 +63,17 @@ impl<D: Device> Device for Offset<D> {
     }
 
     fn submit(&mut self, request: Request, bytes: &[u8], tick: u32) -> Result<(), Refusal> {
-        let height = self.height();
         let kind = examine(request, bytes.len(), self.size()).map_err(|cause| Refusal {
             cause,
-            height,
+            height: self.height(),
         })?;
-        let first = match kind {
-            Kind::Read | Kind::Write => self.base.saturating_add(request.first),
-            Kind::Flush => 0,
-        };
+        let first = lowered(self.base, kind, request.first);
         self.lower
             .submit(Request { first, ..request }, bytes, tick)
-            .map_err(|refusal| Refusal { height, ..refusal })
+            .map_err(|refusal| Refusal {
+                height: self.height(),
+                ..refusal
+            })
     }
 
     fn turn(&mut self, tick: u32) -> u32 {
@@ -70,9 +81,9 @@ impl<D: Device> Device for Offset<D> {
     }
 
     fn collect(&mut self, tag: u32, buffer: &mut [u8]) -> Result<u8, Refusal> {
-        let height = self.height();
-        self.lower
-            .collect(tag, buffer)
-            .map_err(|refusal| Refusal { height, ..refusal })
+        self.lower.collect(tag, buffer).map_err(|refusal| Refusal {
+            height: self.height(),
+            ..refusal
+        })
     }
 }

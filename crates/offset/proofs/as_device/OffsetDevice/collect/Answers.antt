@@ -1,7 +1,8 @@
 use Rattle.std.proofs.Common.{length, rules, sym, ap, ◌∙◌, subst, ap₂}
+use Rattle.device.specs.Layers.{layer_height}
 use Rattle.gate.specs.Means.{gated}
 use Rattle.offset.specs.Means.{Within, over}
-use Rattle.offset.proofs.OffsetCalls.{at_height, mapped, collect_answers, collect_hands, collect_leaves, collect_within}
+use Rattle.offset.proofs.OffsetCalls.{at_height, mapped, collect_answers, collect_hands, collect_leaves, collect_within, height_collected}
 use Rattle.offset.proofs.as_device.OffsetDevice.collect.Goals as goal
 
 pub invariant_of-self : goal.invariant_of-self
@@ -12,8 +13,12 @@ invariant_of-self g c =
 pub returns-clause-answers : goal.returns-clause-answers
 returns-clause-answers g c =
     let d = c.args.self.now in
-    mapped _ c.height-height.result c.collect.result c.map_err.result c.map_err.ensures.cases (λ f y k. search rules)
-    ∙ (ap₂ at_height c.height-height.ensures c.collect.ensures.answers ∙ collect_answers d.base d.most _ c.args.tag (length c.args.buffer.now))
+    let d' = c.collect.new.self in
+    let m = gated d.lower.shut (g.D.Device.meaning d.lower.lower) in
+    let m' = gated d'.shut (g.D.Device.meaning d'.lower) in
+    let h = height_collected m m' c.args.tag (length c.args.buffer.now) c.collect.ensures.leaves in
+    mapped _ (layer_height m'.height) c.collect.result c.map_err.result c.map_err.ensures.cases (λ f y k. search rules)
+    ∙ (ap₂ at_height (ap layer_height h) c.collect.ensures.answers ∙ collect_answers d.base d.most _ c.args.tag (length c.args.buffer.now))
 
 pub returns-clause-hands : goal.returns-clause-hands
 returns-clause-hands g c =

@@ -1,22 +1,23 @@
 use Rattle.std.proofs.Common.{length, rules, sym, ap, ◌∙◌, subst, ap₂}
+use Rattle.device.specs.declared.interface.Request.{Request}
+use Rattle.device.specs.Layers.{layer_height}
 use Rattle.device.specs.Submit.{form}
 use Rattle.gate.specs.Means.{gated}
 use Rattle.gate.specs.Turn.{Passed}
 use Rattle.offset.specs.Means.{Within, over}
-use Rattle.offset.proofs.OffsetCalls.{acted, at_height, mapped, passed, Submits, submits}
-use Rattle.offset.proofs.as_device.OffsetDevice.submit.Goals.{After-submit, in-Read, in-Flush}
+use Rattle.offset.proofs.OffsetCalls.{acted, at_height, mapped, passed, Submits, submits, height_submitted}
+use Rattle.offset.proofs.as_device.OffsetDevice.submit.Goals.{After-submit}
 use Rattle.offset.proofs.as_device.OffsetDevice.submit.Goals as goal
 
 sent : (g : _) (c : After-submit g) → Submits c.args.self.now.base c.args.self.now.most
     (gated c.args.self.now.lower.shut (g.D.Device.meaning c.args.self.now.lower.lower)) c.args.request
-    (record { tag = c.args.request.tag; kind = c.args.request.kind; first = c.match-kind.first; count = c.args.request.count }) c.args.bytes.now
+    (record { tag = c.args.request.tag; kind = c.args.request.kind; first = c.lowered-first.result; count = c.args.request.count }) c.args.bytes.now
 sent g c =
     let d = c.args.self.now in
     let q = c.args.request in
     submits d.base d.most (gated d.lower.shut (g.D.Device.meaning d.lower.lower)) q c.args.bytes.now c.in_ok-kind.kind
     (ap (λ z. form z q (length c.args.bytes.now)) (sym c.size.ensures) ∙ (sym c.examine.ensures ∙ passed _ c.examine.result c.map_err.result c.in_ok-kind.kind c.map_err.ensures.cases c.in_ok-kind.was))
-    c.match-kind.first (g.D.Device.sound d.lower.lower).size
-    (elim c.match-kind.branch [ in-Read w ↦ search rules | in-Flush w ↦ search rules ])
+    c.lowered-first.result (g.D.Device.sound d.lower.lower).size c.lowered-first.ensures
 
 pub invariant_of-self : goal.invariant_of-self
 invariant_of-self g c =
@@ -25,8 +26,15 @@ invariant_of-self g c =
 
 pub returns-clause-answers : goal.returns-clause-answers
 returns-clause-answers g c =
-    mapped _ c.height-height.result c.submit.result c.map_err-2.result c.map_err-2.ensures.cases (λ f y k. search rules)
-    ∙ (ap₂ at_height c.height-height.ensures c.submit.ensures.answers ∙ (sent g (goal.at.returns-clause-answers g c).After-submit).answers)
+    let d = c.args.self.now in
+    let d' = c.submit.new.self in
+    let q = c.args.request in
+    let m = gated d.lower.shut (g.D.Device.meaning d.lower.lower) in
+    let m' = gated d'.shut (g.D.Device.meaning d'.lower) in
+    let low : Request = record { tag = q.tag; kind = q.kind; first = c.lowered-first.result; count = q.count } in
+    let h = height_submitted m m' low c.args.bytes.now c.submit.ensures.leaves in
+    mapped _ (layer_height m'.height) c.submit.result c.map_err-2.result c.map_err-2.ensures.cases (λ f y k. search rules)
+    ∙ (ap₂ at_height (ap layer_height h) c.submit.ensures.answers ∙ (sent g (goal.at.returns-clause-answers g c).After-submit).answers)
 
 pub returns-clause-leaves : goal.returns-clause-leaves
 returns-clause-leaves g c =
