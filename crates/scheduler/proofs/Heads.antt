@@ -1,9 +1,10 @@
 -- The waiting runs, and the oldest and the lowest of those that a test takes.
-use Rattle.std.proofs.Common.{◌≡◌, ℕ, Bool, true, false, cond, leb, List, [], ◌∷◌, Some, None, Option, Bor, subst, sym, refl, ap, ◌∙◌, arith}
+use Rattle.std.proofs.Common.{◌≡◌, ℕ, Bool, true, false, cond, leb, List, [], ◌∷◌, Some, None, Option, map, ◌&&◌, ◌||◌, Bor, subst, sym, refl, ap, ◌∙◌, arith}
 use Rattle.std.specs.List.{cons_option, filter_map, find, reduce, fold, FoldsTo}
 use Rattle.std.specs.Iterator.{Drains, KeyTurn, PicksMinByKey}
 use Rattle.std.specs.Fn.{CalledAt, Mut}
-use Rattle.std.specs.Option.{MatchOption}
+use Rattle.std.specs.Option.{MatchOption, option_map}
+use Rattle.device.specs.declared.interface.Kind.{Kind}
 use Rattle.std.specs.Ordering.{min_by_ordering, nat_cmp}
 use Rattle.std.specs.declared.cmp.Ordering.{Ordering}
 use Rattle.std.specs.declared.cmp.Ordering.TheVariants.{Less, Equal, Greater}
@@ -12,9 +13,9 @@ use Rattle.std.proofs.lemmas.Iterator.Consumers.{reduce_from_yields_List}
 use Rattle.std.proofs.lemmas.Bool.Decides.{nat_tests}
 use Rattle.deadline.specs.declared.dispatch.Queued.{Queued}
 use Rattle.deadline.specs.declared.dispatch.Run.{Run}
-use Rattle.deadline.specs.Waiting.{those, is_head, run_of, runs, runs_headed_in}
-use Rattle.deadline.specs.Turn.{lower, lowest}
-use Rattle.scheduler.specs.Found.{oldest_of, run_at}
+use Rattle.deadline.specs.Waiting.{any, those, same, is_head, run_of, runs, runs_headed_in, free, free_runs}
+use Rattle.deadline.specs.Turn.{lower, lowest, some_of}
+use Rattle.scheduler.specs.Found.{heads_free, oldest_of, run_at}
 
 runs_among : (ws xs : List Queued) → filter_map (run_at ws) xs ≡ runs_headed_in ws xs
 unfolding run_at
@@ -28,6 +29,49 @@ runs_among ws (x ∷ xs) =
 pub runs_is : (ws : List Queued) → filter_map (run_at ws) ws ≡ runs ws
 unfolding runs
 runs_is ws = runs_among ws ws
+
+-- ── the free ones, found by their heads ──
+
+free_among : (k : Kind) (ws xs : List Queued) → map (run_of ws) (those (heads_free k ws) xs) ≡ those (λ r. same r.kind k && free ws r.name) (runs_headed_in ws xs)
+unfolding run_of
+free_among k ws [] = refl
+free_among k ws (x ∷ xs) =
+    let heads = those (heads_free k ws) xs in
+    let rest = those (λ r. same r.kind k && free ws r.name) (runs_headed_in ws xs) in
+    let ih = free_among k ws xs in
+    elim (is_head x) as (λ h. map (run_of ws) (cond (h && (same x.kind k && free ws x.head)) (x ∷ heads) heads) ≡ those (λ r. same r.kind k && free ws r.name) (cond h (run_of ws x ∷ runs_headed_in ws xs) (runs_headed_in ws xs))) [
+      | true ↦ elim (same x.kind k && free ws x.head) as (λ b. map (run_of ws) (cond b (x ∷ heads) heads) ≡ cond b (run_of ws x ∷ rest) rest) [ true ↦ ap (λ l. run_of ws x ∷ l) ih | false ↦ ih ]
+      | false ↦ ih
+    ]
+
+pub free_runs_are : (k : Kind) (ws : List Queued) → map (run_of ws) (those (heads_free k ws) ws) ≡ free_runs k ws
+unfolding free_runs
+free_runs_are k ws = free_among k ws ws
+
+first_among : (f : Queued → Run) (p : Queued → Bool) (xs : List Queued) → option_map f (find p xs) ≡ oldest_of (map f (those p xs))
+first_among f p [] = refl
+first_among f p (x ∷ xs) =
+    elim (p x) as (λ b. option_map f (cond b (Some x) (find p xs)) ≡ oldest_of (map f (cond b (x ∷ those p xs) (those p xs)))) [
+      | true ↦ refl
+      | false ↦ first_among f p xs
+    ]
+
+pub oldest_is : (k : Kind) (ws : List Queued) → oldest_of (free_runs k ws) ≡ option_map (run_of ws) (find (heads_free k ws) ws)
+oldest_is k ws = sym (first_among (run_of ws) (heads_free k ws) ws ∙ ap oldest_of (free_runs_are k ws))
+
+-- what `map` makes of the head that was found
+pub taken : (ws : List Queued) (o : Option (Bor Queued)) (r : Option Run) → MatchOption o (r ≡ None) (λ x. r ≡ Some (run_of ws x.now))
+    → r ≡ option_map (run_of ws) (option_map (λ x. x.now) o)
+taken ws None r h = h
+taken ws (Some x) r h = h
+
+any_among : (f : Queued → Run) (p : Queued → Bool) (xs : List Queued) → any p xs ≡ some_of (map f (those p xs))
+any_among f p [] = refl
+any_among f p (x ∷ xs) =
+    elim (p x) as (λ b. (b || any p xs) ≡ some_of (map f (cond b (x ∷ those p xs) (those p xs)))) [ true ↦ refl | false ↦ any_among f p xs ]
+
+pub some_free_is : (k : Kind) (ws : List Queued) → some_of (free_runs k ws) ≡ any (heads_free k ws) ws
+some_free_is k ws = sym (any_among (run_of ws) (heads_free k ws) ws ∙ ap some_of (free_runs_are k ws))
 
 pub first_is : (p : Run → Bool) (rs : List Run) → find p rs ≡ oldest_of (those p rs)
 first_is p [] = refl

@@ -1,8 +1,9 @@
 // Which run or flush one turn serves.
-ghost use Rattle.std.specs.Prelude.{◌≡◌};
+ghost use Rattle.std.specs.Prelude.{◌≡◌, None};
 ghost use Rattle.deadline.specs.Settings.{period, settings_of};
 ghost use Rattle.deadline.specs.Waiting.{free_runs};
 ghost use Rattle.deadline.specs.Turn.{choice, expired, first_of, new_batch, next_of, position};
+ghost use Rattle.scheduler.specs.Going.{may_go_on};
 ghost use Rattle.scheduler.specs.Meaning.{state_of};
 
 use crate::state::Scheduler;
@@ -39,6 +40,17 @@ impl Scheduler {
         self.period(r.kind) <= self.latest.saturating_sub(r.tick)
     }
 
+    /// Whether the batch is of the kind, and may serve one run more.
+    fn may_go_on(&self, kind: Kind) -> bool
+        ensures { result ≡ may_go_on (settings_of self.now.settings) self.now.batch kind }
+    {
+        match self.batch {
+            Batch::Closed => false,
+            Batch::Reading(n) => kind == Kind::Read && n < self.settings.fifo_batch,
+            Batch::Writing(n) => kind == Kind::Write && n < self.settings.fifo_batch,
+        }
+    }
+
     /// The run that the batch goes on with: the lowest free one of its kind at or past the position.
     fn next_of_batch(&self) -> Option<Run>
         ensures { result ≡ next_of (settings_of self.now.settings) (state_of self.now) self.now.batch }
@@ -56,12 +68,14 @@ impl Scheduler {
     }
 
     /// The first run of a new batch of the kind: the oldest free one if it is expired, else the lowest at or past the position,
-    /// else the oldest.
+    /// else the oldest. A new batch begins where the last one can't go on, so where that may still serve one run of the kind, none is
+    /// free at or past the position, and none is looked for again.
     fn first_of(&self, kind: Kind) -> Option<Run>
+        requires { next_of (settings_of self.now.settings) (state_of self.now) self.now.batch ≡ None }
         ensures { result ≡ first_of (settings_of self.now.settings) (state_of self.now) (position kind (state_of self.now)) (free_runs kind self.now.waiting.tickets.items) }
     {
         let oldest = self.waiting.oldest(kind)?;
-        if self.is_expired(oldest) {
+        if self.is_expired(oldest) || self.may_go_on(kind) {
             return Some(oldest);
         }
         self.waiting
@@ -72,6 +86,7 @@ impl Scheduler {
     /// The run that begins a new batch: a read, unless none is free or free writes were passed over often enough.
     #[tactic(auto, unfolding(deadline::specs::Turn::new_batch))]
     fn new_batch(&self) -> Option<Run>
+        requires { next_of (settings_of self.now.settings) (state_of self.now) self.now.batch ≡ None }
         ensures { result ≡ new_batch (settings_of self.now.settings) (state_of self.now) }
     {
         let starving = self.settings.writes_starved <= self.passed_over

@@ -1,11 +1,11 @@
 // The waiting runs: where each begins and ends, and which of the free ones a turn can serve.
-ghost use Rattle.std.specs.Prelude.{◌≡◌, ◌&&◌, Bool, min, fold, map, sum};
+ghost use Rattle.std.specs.Prelude.{◌≡◌, Bool, min, fold, map, sum};
 ghost use Rattle.std.specs.List.{filter};
 ghost use Rattle.std.specs.Iterator.{ActsAsAt};
 ghost use Rattle.deadline.specs.declared.dispatch.Run.{Run};
-ghost use Rattle.deadline.specs.Waiting.{is_in, is_head, runs, same, free, those, free_runs};
+ghost use Rattle.deadline.specs.Waiting.{is_in, is_head, run_of, runs, those, free_runs};
 ghost use Rattle.deadline.specs.Turn.{lowest, some_of};
-ghost use Rattle.scheduler.specs.Found.{oldest_of, run_at};
+ghost use Rattle.scheduler.specs.Found.{heads_free, oldest_of, run_at};
 
 use crate::waiting::Waiting;
 use deadline::{Queued, Run};
@@ -41,18 +41,26 @@ impl Waiting {
             .sum()
     }
 
-    /// The run that x is the head of, if it is the head of one.
-    #[tactic(auto, using(crate::proofs::Chains::lowest_sector_is, crate::proofs::Chains::sectors_is), unfolding(crate::specs::Found::run_at, deadline::specs::Waiting::run_of))]
-    fn run_at(&self, x: &Queued) -> Option<Run>
-        ensures { result ≡ run_at self.now.tickets.items x.now }
+    /// The run that x is the head of.
+    #[tactic(auto, using(crate::proofs::Chains::lowest_sector_is, crate::proofs::Chains::sectors_is), unfolding(deadline::specs::Waiting::run_of))]
+    fn run_of(&self, x: &Queued) -> Run
+        ensures { result ≡ run_of self.now.tickets.items x.now }
     {
-        is_head(x).then(|| Run {
+        Run {
             name: x.head,
             kind: x.kind,
             begins: self.begins(x.head, x.first),
             count: self.count_of(x.head),
             tick: x.tick,
-        })
+        }
+    }
+
+    /// The run that x is the head of, if it is the head of one.
+    #[tactic(auto, unfolding(crate::specs::Found::run_at))]
+    fn run_at(&self, x: &Queued) -> Option<Run>
+        ensures { result ≡ run_at self.now.tickets.items x.now }
+    {
+        is_head(x).then(|| self.run_of(x))
     }
 
     /// The run with the oldest head of those that pass a test.
@@ -66,26 +74,28 @@ impl Waiting {
             .find(passes)
     }
 
-    /// Whether a run is of the kind, and free.
-    fn is_free_of(&self, kind: Kind, r: &Run) -> bool
-        ensures { result ≡ (same r.now.kind kind && free self.now.tickets.items r.now.name) }
+    /// Whether x is the head of a free run of the kind. What can be told without making up the run is asked first.
+    fn heads_free(&self, kind: Kind, x: &Queued) -> bool
+        ensures { result ≡ heads_free kind self.now.tickets.items x.now }
     {
-        r.kind == kind && self.is_free(r.name)
+        is_head(x) && x.kind == kind && self.is_free(x.head)
     }
 
     /// The free run of a kind with the oldest head.
-    #[tactic(auto, unfolding(deadline::specs::Waiting::free_runs))]
     pub(crate) fn oldest(&self, kind: Kind) -> Option<Run>
         ensures { result ≡ oldest_of (free_runs kind self.now.tickets.items) }
     {
-        self.first_run(|r| self.is_free_of(kind, r))
+        self.tickets
+            .iter()
+            .find(|x| self.heads_free(kind, x))
+            .map(|x| self.run_of(x))
     }
 
     /// Whether a run of the kind is free.
     pub(crate) fn has_free(&self, kind: Kind) -> bool
         ensures { result ≡ some_of (free_runs kind self.now.tickets.items) }
     {
-        self.oldest(kind).is_some()
+        self.tickets.iter().any(|x| self.heads_free(kind, x))
     }
 
     /// The lowest free run of a kind at or past a position; of two that begin at one sector, the one with the older head.
@@ -95,8 +105,8 @@ impl Waiting {
     {
         self.tickets
             .iter()
-            .filter_map(|x| self.run_at(x))
-            .filter(|r| self.is_free_of(kind, r))
+            .filter(|x| self.heads_free(kind, x))
+            .map(|x| self.run_of(x))
             .filter(|r| position <= r.begins)
             .min_by_key(|r| r.begins)
     }
