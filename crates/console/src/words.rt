@@ -41,11 +41,11 @@ pub(crate) fn kind_of(word: &str) -> Result<u8, Wrong> {
     Ok(kind.into())
 }
 
-/// Bytes that begin with `first`, each `step` more than the one before, modulo 256.
+/// Bytes that begin with `first`, each `step` more than the one before, modulo 256, in no more memory than they take.
 fn row(heap: Global, first: u8, step: u8, length: usize) -> Result<Vec<u8>, AllocError> {
-    successors(Some(first), |b| Some(b.wrapping_add(step)))
-        .take(length)
-        .collect(heap)
+    let mut bytes = Vec::with_capacity(heap, length)?;
+    bytes.extend(successors(Some(first), |b| Some(b.wrapping_add(step))).take(length))?;
+    Ok(bytes)
 }
 
 /// The data of a request of `count` sectors. A request of more sectors than 65,536 bytes hold is refused for its count,
