@@ -1,1 +1,2 @@
 mod Applies
+mod Raising

@@ -1,15 +1,16 @@
--- A device of no sectors and no room for tickets, at any height: what the examples stack layers on.
-use Rattle.std.specs.Prelude.{ℕ, false, []}
+-- A device at another height: what the examples stack layers on.
+use Rattle.std.specs.Prelude.{ℕ}
 use Rattle.device.specs.Meaning.{Meaning}
 
-abbrev pub tall : ℕ → Meaning
-tall height = record {
-  size = 0;
-  capacity = 0;
+-- all as it is below, but the height
+abbrev pub raised : ℕ → Meaning → Meaning
+raised height m = record {
+  size = m.size;
+  capacity = m.capacity;
   height = height;
-  bad = λ s. false;
-  home = λ s. record { height = height; sector = s };
-  disk = λ s. [];
-  medium = λ s. [];
-  tickets = [];
+  bad = m.bad;
+  home = m.home;
+  disk = m.disk;
+  medium = m.medium;
+  tickets = m.tickets;
 }

@@ -1,14 +1,15 @@
 // What stacks of layers answer.
 ghost use Rattle.std.specs.Prelude.{◌≤◌};
 ghost use Rattle.device.specs.Sound.{most_height};
-ghost use Rattle.stacks.specs.Tall.{tall};
-ghost use Rattle.stacks.specs.SoundFacts.{sound_tall};
+ghost use Rattle.stacks.specs.Tall.{raised};
+ghost use Rattle.stacks.specs.SoundFacts.{sound_raised};
 
-use device::{Cause, Device, Home, Kind, RUN_BYTES, Refusal, Request, SECTOR, State, examine};
+use device::{Cause, Device, Home, Kind, RUN_BYTES, Refusal, Request, SECTOR, State};
 use drive::Drive;
 use memory_disk::MemoryDisk;
 use mirror::Mirror;
 use offset::Offset;
+use std::alloc::{AllocError, Global};
 use std::test::Fail;
 
 // numbers that name no sector
@@ -159,26 +160,27 @@ fn mirror_of_mirrors(rt: HostRuntime) -> Result<(), Fail> {
     Ok(())
 }
 
-// A device of no sectors and no room for tickets, that only stands as high as a device may.
+// A device that only says that it stands at another height.
 #[derive(Drop)]
-struct Tall {
+struct Tall<D: Device> {
+    lower: D,
     height: u8,
     ghost low: { height ≤ most_height },
 }
 
-impl Device for Tall {
-    ghost meaning = { λ d. tall d.height };
+impl<D: Device> Device for Tall<D> {
+    ghost meaning = { λ d. raised d.height (D.Device.meaning d.lower) };
 
-    ghost sound = { λ d. sound_tall d.height d.low };
+    ghost sound = { λ d. sound_raised d.height (D.Device.meaning d.lower) d.low (D.Device.sound d.lower) };
 
     ghost does = { λ _ _ _. Unit {0} };
 
     fn size(&self) -> u32 {
-        0
+        self.lower.size()
     }
 
     fn capacity(&self) -> u32 {
-        0
+        self.lower.capacity()
     }
 
     fn height(&self) -> u8 {
@@ -186,57 +188,69 @@ impl Device for Tall {
     }
 
     fn open_tickets(&self) -> u32 {
-        0
+        self.lower.open_tickets()
     }
 
-    fn tag_at(&self, _i: u32) -> Option<u32> {
-        None
+    fn tag_at(&self, i: u32) -> Option<u32> {
+        self.lower.tag_at(i)
     }
 
-    fn state(&self, _tag: u32) -> State {
-        State::NotOpen
+    fn state(&self, tag: u32) -> State {
+        self.lower.state(tag)
     }
 
-    fn byte_count(&self, _tag: u32) -> u32 {
-        0
+    fn byte_count(&self, tag: u32) -> u32 {
+        self.lower.byte_count(tag)
     }
 
-    fn home(&self, _sector: u32) -> Option<Home> {
-        None
+    fn home(&self, sector: u32) -> Option<Home> {
+        self.lower.home(sector)
     }
 
-    fn submit(&mut self, request: Request, bytes: &[u8], _tick: u32) -> Result<(), Refusal> {
-        let cause = examine(request, bytes.len(), 0)
-            .err()
-            .unwrap_or(Cause::Full);
-        Err(Refusal {
-            cause,
-            height: self.height,
-        })
+    fn submit(&mut self, request: Request, bytes: &[u8], tick: u32) -> Result<(), Refusal> {
+        let height = self.height;
+        self.lower
+            .submit(request, bytes, tick)
+            .map_err(|refusal| Refusal { height, ..refusal })
     }
 
-    fn turn(&mut self, _tick: u32) -> u32 {
-        0
+    fn turn(&mut self, tick: u32) -> u32 {
+        self.lower.turn(tick)
     }
 
-    fn collect(&mut self, _tag: u32, _buffer: &mut [u8]) -> Result<u8, Refusal> {
-        Err(Refusal {
-            cause: Cause::NotOpen,
-            height: self.height,
-        })
+    fn collect(&mut self, tag: u32, buffer: &mut [u8]) -> Result<u8, Refusal> {
+        let height = self.height;
+        self.lower
+            .collect(tag, buffer)
+            .map_err(|refusal| Refusal { height, ..refusal })
     }
+}
+
+// A device of one sector and room for one ticket, at the height.
+fn one_sector_at<'a>(
+    heap: Global,
+    bytes: &'a mut [u8; SECTOR],
+    height: u8,
+) -> Result<Tall<Drive<'a>>, AllocError> {
+    let lower = Drive::new(heap, bytes, NONE)?;
+    Ok(Tall { lower, height })
 }
 
 // No layer stands higher than 255.
 #[test]
-fn the_highest_layers(rt: HostRuntime) {
-    assert_eq!(rt; Offset::new(Tall { height: 253 }, 0, 1).height(), 254);
-    assert_eq!(rt;
-        Offset::new(Offset::new(Tall { height: 254 }, 0, 1), 0, 1).height(),
-        255
+fn the_highest_layers(rt: HostRuntime) -> Result<(), Fail> {
+    let heap = rt.alloc();
+    let (mut a, mut b) = ([0; SECTOR], [0; SECTOR]);
+    let one = Offset::new(one_sector_at(heap, &mut a, 253)?, 0, 1);
+    assert_eq!(rt; (one.height(), one.capacity()), (254, 1));
+    drop(one);
+    let two = Offset::new(Offset::new(one_sector_at(heap, &mut a, 254)?, 0, 1), 0, 1);
+    assert_eq!(rt; (two.height(), two.capacity()), (255, 1));
+    drop(two);
+    let sides = Mirror::new(
+        one_sector_at(heap, &mut a, 3)?,
+        one_sector_at(heap, &mut b, 255)?,
     );
-    assert_eq!(rt;
-        Mirror::new(Tall { height: 3 }, Tall { height: 255 }).height(),
-        255
-    );
+    assert_eq!(rt; (sides.height(), sides.capacity()), (255, 1));
+    Ok(())
 }
