@@ -99,7 +99,7 @@ impl Waiting {
     }
 
     /// The lowest free run of a kind at or past a position; of two that begin at one sector, the one with the older head.
-    // Its chain begins as that of `first_run`: Rattle proves no function that returns an `impl Iterator`, so the two share none.
+    // The heads that `oldest` asks too, by a `filter` of its own: Rattle proves no function that returns an `impl Iterator`.
     pub(crate) fn lowest(&self, kind: Kind, position: u32) -> Option<Run>
         ensures { result ≡ lowest position (free_runs kind self.now.tickets.items) }
     {
