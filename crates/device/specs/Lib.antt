@@ -10,3 +10,4 @@ pub mod Fault
 pub mod Layers
 pub mod Lookup
 pub mod Words
+pub mod Always

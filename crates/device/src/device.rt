@@ -9,63 +9,68 @@ ghost use Rattle.device.specs.Turns.{Turned};
 
 use crate::interface::{Home, Refusal, Request, State};
 
-/// A block device. `meaning` is what it stands for, and `sound` what holds of that at any time, by what the device's own fields
-/// keep to; `does` is what a call does beyond the meaning.
+/// A block device. `meaning` is what it stands for; `kept` is what its own fields keep to, so that every clause holds of a
+/// device that was made by its making call and changed by these calls alone; `does` is what a call does beyond the meaning.
 pub trait Device {
     ghost meaning: { Self → Meaning };
 
-    ghost sound: { (d : Self) → Sound (meaning d) };
+    ghost kept: { Self → Type 0 };
+
+    ghost sound: { (d : Self) → kept d → Sound (meaning d) };
 
     ghost does: { Self → Told → Self → Type 0 };
 
     /// The number of sectors.
     fn size(&self) -> u32
-        ensures { result ≡ (meaning self.now).size };
+        ensures { kept self.now → result ≡ (meaning self.now).size };
 
     /// The most tickets that may be open.
     fn capacity(&self) -> u32
-        ensures { result ≡ (meaning self.now).capacity };
+        ensures { kept self.now → result ≡ (meaning self.now).capacity };
 
     /// The height: 0 of a bottom device, one more than the highest below of a layer.
     fn height(&self) -> u8
-        ensures { result ≡ (meaning self.now).height };
+        ensures { kept self.now → result ≡ (meaning self.now).height };
 
     /// The number of open tickets.
     fn open_tickets(&self) -> u32
-        ensures { result ≡ length (meaning self.now).tickets };
+        ensures { kept self.now → result ≡ length (meaning self.now).tickets };
 
     /// The tag of the i-th oldest open ticket, from 0.
     fn tag_at(&self, i: u32) -> Option<u32>
-        ensures { result ≡ tag_at i (meaning self.now).tickets };
+        ensures { kept self.now → result ≡ tag_at i (meaning self.now).tickets };
 
     /// How far the ticket of a tag has come.
     fn state(&self, tag: u32) -> State
-        ensures { result ≡ state_of tag (meaning self.now).tickets };
+        ensures { kept self.now → result ≡ state_of tag (meaning self.now).tickets };
 
     /// The bytes that the read of a tag gives, else 0.
     fn byte_count(&self, tag: u32) -> u32
-        ensures { result ≡ byte_count tag (meaning self.now).tickets };
+        ensures { kept self.now → result ≡ byte_count tag (meaning self.now).tickets };
 
     /// The home of a sector, or nothing beyond the last.
     fn home(&self, sector: u32) -> Option<Home>
-        ensures { result ≡ home_at (meaning self.now) sector };
+        ensures { kept self.now → result ≡ home_at (meaning self.now) sector };
 
     /// Adds a waiting ticket, or refuses and leaves all as it was.
     // Request, data and tick make no struct: a layer changes the request alone and hands the other two on as they are.
     fn submit(&mut self, request: Request, bytes: &[u8], tick: u32) -> Result<(), Refusal>
-        ensures answers { result ≡ submit_answer (meaning self.old) request (length bytes.now) }
-        ensures leaves { meaning self.new ≡ submitted (meaning self.old) request bytes.now }
-        ensures did { does self.old (told_submit request bytes.now tick result) self.new };
+        ensures keeps { kept self.old → kept self.new }
+        ensures answers { kept self.old → result ≡ submit_answer (meaning self.old) request (length bytes.now) }
+        ensures leaves { kept self.old → meaning self.new ≡ submitted (meaning self.old) request bytes.now }
+        ensures did { kept self.old → does self.old (told_submit request bytes.now tick result) self.new };
 
     /// Readies at least one ticket if any waits, and answers the ticks that it took.
     fn turn(&mut self, tick: u32) -> u32
-        ensures turns { Turned (meaning self.old) (meaning self.new) result }
-        ensures did { does self.old (told_turn tick result) self.new };
+        ensures keeps { kept self.old → kept self.new }
+        ensures turns { kept self.old → Turned (meaning self.old) (meaning self.new) result }
+        ensures did { kept self.old → does self.old (told_turn tick result) self.new };
 
     /// Answers the mask of a ready ticket, hands a read's bytes over and removes the ticket, or refuses and leaves all as it was.
     fn collect(&mut self, tag: u32, buffer: &mut [u8]) -> Result<u8, Refusal>
-        ensures answers { result ≡ collect_answer (meaning self.old) tag (length buffer.old) }
-        ensures hands { buffer.new ≡ buffer_after (meaning self.old) tag buffer.old }
-        ensures leaves { meaning self.new ≡ collected (meaning self.old) tag (length buffer.old) }
-        ensures did { does self.old (told_collect tag buffer.old result buffer.new) self.new };
+        ensures keeps { kept self.old → kept self.new }
+        ensures answers { kept self.old → result ≡ collect_answer (meaning self.old) tag (length buffer.old) }
+        ensures hands { kept self.old → buffer.new ≡ buffer_after (meaning self.old) tag buffer.old }
+        ensures leaves { kept self.old → meaning self.new ≡ collected (meaning self.old) tag (length buffer.old) }
+        ensures did { kept self.old → does self.old (told_collect tag buffer.old result buffer.new) self.new };
 }

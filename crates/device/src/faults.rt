@@ -7,7 +7,7 @@ use crate::fault::Fault;
 
 /// The fault that a mask tells of the run from `first`; the mask 0 tells of none.
 pub fn fault_at<D: Device>(device: &D, first: u32, mask: u8) -> Option<Fault>
-    ensures { result ≡ fault_of (D.meaning device.now) first mask }
+    ensures { D.kept device.now → result ≡ fault_of (D.meaning device.now) first mask }
 {
     if mask == 0 {
         return None;

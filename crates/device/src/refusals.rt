@@ -7,7 +7,7 @@ use crate::interface::{Cause, Refusal};
 
 /// What a refused call of the device returns: the cause, at the device's height.
 pub fn refused<D: Device>(device: &D, cause: Cause) -> Refusal
-    ensures { result ≡ refused_by (D.meaning device.now) cause }
+    ensures { D.kept device.now → result ≡ refused_by (D.meaning device.now) cause }
 {
     Refusal {
         cause,

@@ -33,7 +33,9 @@ impl<'a> Drive<'a> {
 impl Device for Drive<'_> {
     ghost meaning = { means };
 
-    ghost sound = { sound_drive };
+    ghost kept = { λ d. Unit {0} };
+
+    ghost sound = { λ d k. sound_drive d };
 
     ghost does = { Acts };
 

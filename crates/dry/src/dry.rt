@@ -8,11 +8,12 @@ const MOST_TICKS: u32 = 60000;
 
 /// Turns a device until nothing waits there, and adds up the ticks, at most 60,000. As many turns as tickets are open suffice.
 pub fn run_dry<D: Device>(device: &mut D, tick: u32) -> u32
-    ensures { Dry D.meaning D.does tick device.old device.new result }
+    ensures keeps { D.kept device.old → D.kept device.new }
+    ensures dries { D.kept device.old → Dry D.meaning D.does tick device.old device.new result }
 {
     let mut ticks = 0u32;
     for _ in 0..device.open_tickets() {
-        ticks = (ticks + device.turn(tick)).min(MOST_TICKS);
+        ticks = ticks.saturating_add(device.turn(tick)).min(MOST_TICKS);
     }
     ticks
 }

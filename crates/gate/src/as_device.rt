@@ -9,7 +9,9 @@ use device::{Cause, Device, Home, Refusal, Request, State, examine, refused};
 impl<D: Device> Device for Gate<D> {
     ghost meaning = { λ d. gated d.shut (D.Device.meaning d.lower) };
 
-    ghost sound = { λ d. gated_sound d.shut (D.Device.meaning d.lower) (D.Device.sound d.lower) };
+    ghost kept = { λ d. D.Device.kept d.lower };
+
+    ghost sound = { λ d k. gated_sound d.shut (D.Device.meaning d.lower) (D.Device.sound d.lower k) };
 
     ghost does = { λ d e x. Passed D.Device.does d.shut d.lower e x.shut x.lower };
 

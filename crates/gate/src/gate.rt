@@ -14,7 +14,7 @@ pub struct Gate<D> {
 
 /// Whether a layer over the device only asks questions: it has open tickets, or no room for any.
 pub fn must_shut<D: Device>(lower: &D) -> bool
-    ensures { result ≡ shut_over (D.meaning lower.now) }
+    ensures { D.kept lower.now → result ≡ shut_over (D.meaning lower.now) }
 {
     0 < lower.open_tickets() || lower.capacity() == 0
 }
@@ -29,7 +29,8 @@ impl<D: Device> Gate<D> {
 
     /// A gate over a device, shut where a layer over the device only asks questions.
     pub fn over(lower: D) -> Gate<D>
-        ensures { result ≡ record { lower = lower; shut = shut_over (D.meaning lower) } }
+        ensures lower { result.lower ≡ lower }
+        ensures shut { D.kept lower → result.shut ≡ shut_over (D.meaning lower) }
     {
         let shut = must_shut(&lower);
         Gate::new(lower, shut)

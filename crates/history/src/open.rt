@@ -8,7 +8,7 @@ use std::alloc::{AllocError, Global};
 
 /// The open tickets, the oldest first, each with its state.
 pub fn open_list<D: Device>(heap: Global, device: &D) -> Result<Vec<OpenTicket>, AllocError>
-    ensures { IfOk result (λ v. v.items ≡ open_list (D.meaning device.now).tickets) }
+    ensures { D.kept device.now → IfOk result (λ v. v.items ≡ open_list (D.meaning device.now).tickets) }
 {
     (0..device.open_tickets())
         .filter_map(|i| device.tag_at(i))

@@ -10,7 +10,8 @@ use std::alloc::{AllocError, Global};
 impl Call {
     /// Sends the call. If there is no memory for the answer, nothing is sent.
     fn send<D: Device>(self, heap: Global, device: &mut D) -> Result<Event, AllocError>
-        ensures { MatchResult result (λ e. (call_of e ≡ self) × Step D.meaning D.does device.old e device.new) (λ _. device.new ≡ device.old) }
+        ensures keeps { D.kept device.old → D.kept device.new }
+        ensures sends { D.kept device.old → MatchResult result (λ e. (call_of e ≡ self) × Step D.meaning D.does device.old e device.new) (λ _. device.new ≡ device.old) }
     {
         Ok(match self {
             Call::Submit {
@@ -63,7 +64,8 @@ pub fn send_all<D: Device>(
     device: &mut D,
     calls: Vec<Call>,
 ) -> Result<Vec<Event>, AllocError>
-    ensures { MatchResult result (λ log. SentAll D.meaning D.does device.old calls.items log.items device.new) (λ _. SentSome D.meaning D.does device.old calls.items device.new) }
+    ensures keeps { D.kept device.old → D.kept device.new }
+    ensures heard { D.kept device.old → MatchResult result (λ log. SentAll D.meaning D.does device.old calls.items log.items device.new) (λ _. SentSome D.meaning D.does device.old calls.items device.new) }
 {
     let mut log = Vec::new(heap);
     for call in calls {

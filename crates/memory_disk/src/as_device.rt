@@ -32,7 +32,9 @@ impl<'a> MemoryDisk<'a> {
 impl Device for MemoryDisk<'_> {
     ghost meaning = { means };
 
-    ghost sound = { sound_disk };
+    ghost kept = { λ d. Unit {0} };
+
+    ghost sound = { λ d k. sound_disk d };
 
     ghost does = { Acts };
 

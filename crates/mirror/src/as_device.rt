@@ -1,5 +1,6 @@
 // The mirror as a device over any two devices.
-ghost use Rattle.mirror.specs.Means.{mirrored};
+ghost use Rattle.std.specs.Prelude.{◌≡◌};
+ghost use Rattle.mirror.specs.Means.{mirrored, Level};
 ghost use Rattle.mirror.specs.Turn.{Acts};
 ghost use Rattle.mirror.specs.SoundFacts.{mirrored_sound};
 
@@ -12,7 +13,9 @@ use gate::Gate;
 impl<L: Device, R: Device> Device for Mirror<L, R> {
     ghost meaning = { λ d. mirrored (⟦<Gate<L> as Device>⟧.meaning d.left) (⟦<Gate<R> as Device>⟧.meaning d.right) };
 
-    ghost sound = { λ d. mirrored_sound _ _ (⟦<Gate<L> as Device>⟧.sound d.left) (⟦<Gate<R> as Device>⟧.sound d.right) d.level };
+    ghost kept = { λ d. ⟦<Gate<L> as Device>⟧.kept d.left × ⟦<Gate<R> as Device>⟧.kept d.right × (d.right.shut ≡ d.left.shut) × Level (⟦<Gate<L> as Device>⟧.meaning d.left) (⟦<Gate<R> as Device>⟧.meaning d.right) };
+
+    ghost sound = { λ d k. mirrored_sound _ _ (⟦<Gate<L> as Device>⟧.sound d.left k.0) (⟦<Gate<R> as Device>⟧.sound d.right k.1) k.3 };
 
     ghost does = { λ d e x. Acts L.meaning L.does R.meaning R.does d.left.shut d.left.lower d.right.lower e x.left.lower x.right.lower };
 

@@ -1,6 +1,7 @@
 #![tactic(auto)]
 
 mod as_device;
+mod as_steady;
 mod mirror;
 mod mix;
 

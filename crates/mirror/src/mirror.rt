@@ -1,5 +1,6 @@
 // Two devices that hold the same: what one has lost, the other shows.
 ghost use Rattle.std.specs.Prelude.{◌≡◌, ℕ, ◌≤◌, IfOk};
+ghost use Rattle.device.specs.Always.{Always};
 ghost use Rattle.device.specs.Collect.{due};
 ghost use Rattle.device.specs.Meaning.{refused_by, run_bytes};
 ghost use Rattle.device.specs.Submit.{admitted};
@@ -7,21 +8,22 @@ ghost use Rattle.gate.specs.Means.{gated};
 ghost use Rattle.mirror.specs.Means.{Level, room_due, set_up, shut_both};
 ghost use Rattle.mirror.specs.LevelFacts.{Agree-prop};
 
-use device::{Cause, Device, Kind, Refusal, Request, State, examine};
+use device::{Cause, Device, Kind, RUN_BYTES, Refusal, Request, State, examine};
 use gate::{Gate, must_shut};
 
-/// Two devices as one: every request goes to both sides, through gates that are open or shut together.
+/// Two devices as one: every request goes to both sides, through gates that are open or shut together. Over sides that are kept this is
+/// part of `kept`, and where every value of both is kept it holds of every mirror.
 #[derive(Drop)]
 pub struct Mirror<L: Device, R: Device> {
     pub(crate) left: Gate<L>,
     pub(crate) right: Gate<R>,
-    ghost together: { right.shut ≡ left.shut },
-    ghost level: { Level (gated left.shut (L.meaning left.lower)) (gated right.shut (R.meaning right.lower)) } by { Prim.hlevel Agree-prop },
+    ghost together: { Always L.kept → Always R.kept → right.shut ≡ left.shut },
+    ghost level: { Always L.kept → Always R.kept → Level (gated left.shut (L.meaning left.lower)) (gated right.shut (R.meaning right.lower)) } by { Prim.hlevel Agree-prop },
 }
 
 /// Whether a mirror of the sides only asks questions: one of them has open tickets, or no room for any.
 fn must_shut_both<L: Device, R: Device>(left: &L, right: &R) -> bool
-    ensures { result ≡ shut_both (L.meaning left.now) (R.meaning right.now) }
+    ensures { L.kept left.now → R.kept right.now → result ≡ shut_both (L.meaning left.now) (R.meaning right.now) }
 {
     must_shut(left) || must_shut(right)
 }
@@ -29,7 +31,8 @@ fn must_shut_both<L: Device, R: Device>(left: &L, right: &R) -> bool
 impl<L: Device, R: Device> Mirror<L, R> {
     /// A mirror over two sides; over a side that has open tickets, or no room for any, it only asks questions.
     pub fn new(left: L, right: R) -> Mirror<L, R>
-        ensures { ⟦<Mirror<L, R> as Device>⟧.meaning result ≡ set_up (L.meaning left) (R.meaning right) }
+        ensures keeps { L.kept left → R.kept right → ⟦<Mirror<L, R> as Device>⟧.kept result }
+        ensures means { L.kept left → R.kept right → ⟦<Mirror<L, R> as Device>⟧.meaning result ≡ set_up (L.meaning left) (R.meaning right) }
     {
         let shut = must_shut_both(&left, &right);
         Mirror {
@@ -41,7 +44,7 @@ impl<L: Device, R: Device> Mirror<L, R> {
     /// A refusal at the height of the mirror.
     // Not `device::refused`: asked from the mirror's own `submit` and `collect` it closes a cycle of calls, which the check refuses.
     pub(crate) fn refused(&self, cause: Cause) -> Refusal
-        ensures { result ≡ refused_by (⟦<Mirror<L, R> as Device>⟧.meaning self.now) cause }
+        ensures { ⟦<Mirror<L, R> as Device>⟧.kept self.now → result ≡ refused_by (⟦<Mirror<L, R> as Device>⟧.meaning self.now) cause }
     {
         Refusal {
             cause,
@@ -52,7 +55,7 @@ impl<L: Device, R: Device> Mirror<L, R> {
     /// The kind under which a request is accepted, or the first cause to refuse it, from questions alone.
     // A bottom device's front judges alike, by its list: one function for both would ask a front for a meaning, which has none.
     pub(crate) fn admit(&self, request: Request, given: usize) -> Result<Kind, Cause>
-        ensures { result ≡ admitted (⟦<Mirror<L, R> as Device>⟧.meaning self.now) request given }
+        ensures { ⟦<Mirror<L, R> as Device>⟧.kept self.now → result ≡ admitted (⟦<Mirror<L, R> as Device>⟧.meaning self.now) request given }
     {
         let kind = examine(request, given, self.size())?;
         if self.state(request.tag) != State::NotOpen {
@@ -66,7 +69,7 @@ impl<L: Device, R: Device> Mirror<L, R> {
 
     /// The bytes that a collect hands over, or the first cause to refuse it, from questions alone.
     pub(crate) fn bytes_due(&self, tag: u32, space: usize) -> Result<usize, Cause>
-        ensures answers { result ≡ room_due (due (⟦<Mirror<L, R> as Device>⟧.meaning self.now) tag space) }
+        ensures answers { ⟦<Mirror<L, R> as Device>⟧.kept self.now → result ≡ room_due (due (⟦<Mirror<L, R> as Device>⟧.meaning self.now) tag space) }
         ensures fits { IfOk result (λ n. n ≤ space) }
         ensures short { IfOk result (λ n. n ≤ run_bytes) }
     {
@@ -74,7 +77,8 @@ impl<L: Device, R: Device> Mirror<L, R> {
             State::NotOpen => Err(Cause::NotOpen),
             State::Waiting => Err(Cause::Waits),
             State::Ready => {
-                let n = self.byte_count(tag) as usize;
+                // A side that is kept has no more; one that is not may say any number, and no more is patched.
+                let n = (self.byte_count(tag) as usize).min(RUN_BYTES);
                 if space < n {
                     Err(Cause::ShortBuffer)
                 } else {

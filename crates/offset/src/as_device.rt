@@ -1,7 +1,7 @@
 // The offset as a device over any device.
 ghost use Rattle.std.specs.Prelude.{◌≡◌, ◌+◌, ◌-◌, ◌^◌, min, if◌then◌else◌};
 ghost use Rattle.device.specs.Meaning.{is_flush};
-ghost use Rattle.offset.specs.Means.{over};
+ghost use Rattle.offset.specs.Means.{over, Within};
 ghost use Rattle.offset.specs.Turn.{Acts};
 ghost use Rattle.offset.specs.SoundFacts.{over_sound};
 
@@ -22,7 +22,9 @@ fn lowered(base: u32, kind: Kind, first: u32) -> u32
 impl<D: Device> Device for Offset<D> {
     ghost meaning = { λ d. over d.base d.most (⟦<Gate<D> as Device>⟧.meaning d.lower) };
 
-    ghost sound = { λ d. over_sound d.base d.most (⟦<Gate<D> as Device>⟧.meaning d.lower) (⟦<Gate<D> as Device>⟧.sound d.lower) d.within };
+    ghost kept = { λ d. ⟦<Gate<D> as Device>⟧.kept d.lower × Within d.base d.most (⟦<Gate<D> as Device>⟧.meaning d.lower) };
+
+    ghost sound = { λ d k. over_sound d.base d.most (⟦<Gate<D> as Device>⟧.meaning d.lower) (⟦<Gate<D> as Device>⟧.sound d.lower k.0) k.1 };
 
     ghost does = { λ d e x. Acts d.base ⟦<Gate<D> as Device>⟧.meaning ⟦<Gate<D> as Device>⟧.does d.lower e x.lower };
 

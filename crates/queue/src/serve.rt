@@ -17,9 +17,10 @@ pub fn serve_below<D: Device>(
     buffer: &mut [u8],
     tick: u32,
 ) -> (u32, u8)
-    ensures tries { Tried D.meaning D.does below.old below.new kind first count buffer.old buffer.new tick result.0 result.1 }
-    ensures serves { Servable (D.meaning below.old) kind first count → count * sector_bytes ≤ length buffer.old → Served (D.meaning below.old) (D.meaning below.new) kind first count buffer.old buffer.new result.0 result.1 }
-    ensures calls { Servable (D.meaning below.old) kind first count → count * sector_bytes ≤ length buffer.old → Called D.does below.old below.new kind first count buffer.old buffer.new tick result.0 result.1 }
+    ensures keeps { D.kept below.old → D.kept below.new }
+    ensures tries { D.kept below.old → Tried D.meaning D.does below.old below.new kind first count buffer.old buffer.new tick result.0 result.1 }
+    ensures serves { D.kept below.old → Servable (D.meaning below.old) kind first count → count * sector_bytes ≤ length buffer.old → Served (D.meaning below.old) (D.meaning below.new) kind first count buffer.old buffer.new result.0 result.1 }
+    ensures calls { D.kept below.old → Servable (D.meaning below.old) kind first count → count * sector_bytes ≤ length buffer.old → Called D.does below.old below.new kind first count buffer.old buffer.new tick result.0 result.1 }
 {
     let given = kind.due_length(count).min(buffer.len());
     let request = Request {

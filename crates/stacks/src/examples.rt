@@ -1,6 +1,7 @@
 // What stacks of layers answer.
-ghost use Rattle.std.specs.Prelude.{◌≤◌};
+ghost use Rattle.std.specs.Prelude.{◌≤◌, []};
 ghost use Rattle.device.specs.Sound.{most_height};
+ghost use Rattle.memory_disk.specs.Means.{set_up};
 ghost use Rattle.stacks.specs.Tall.{raised};
 ghost use Rattle.stacks.specs.SoundFacts.{sound_raised};
 
@@ -160,18 +161,94 @@ fn mirror_of_mirrors(rt: HostRuntime) -> Result<(), Fail> {
     Ok(())
 }
 
+// A stand-in that keeps nothing: it only stands as high as a device may.
+#[derive(Drop)]
+struct Tall {
+    height: u8,
+}
+
+impl Device for Tall {
+    ghost meaning = { λ _. set_up [] [] };
+
+    ghost kept = { λ _. ⊥ };
+
+    ghost sound = { λ d k. absurd k };
+
+    ghost does = { λ _ _ _. Unit {0} };
+
+    fn size(&self) -> u32 {
+        1
+    }
+
+    fn capacity(&self) -> u32 {
+        1
+    }
+
+    fn height(&self) -> u8 {
+        self.height
+    }
+
+    fn open_tickets(&self) -> u32 {
+        0
+    }
+
+    fn tag_at(&self, _i: u32) -> Option<u32> {
+        None
+    }
+
+    fn state(&self, _tag: u32) -> State {
+        State::NotOpen
+    }
+
+    fn byte_count(&self, _tag: u32) -> u32 {
+        0
+    }
+
+    fn home(&self, _sector: u32) -> Option<Home> {
+        None
+    }
+
+    fn submit(&mut self, _request: Request, _bytes: &[u8], _tick: u32) -> Result<(), Refusal> {
+        Ok(())
+    }
+
+    fn turn(&mut self, _tick: u32) -> u32 {
+        0
+    }
+
+    fn collect(&mut self, _tag: u32, _buffer: &mut [u8]) -> Result<u8, Refusal> {
+        Ok(0)
+    }
+}
+
+// No layer stands higher than 255.
+#[test]
+fn the_highest_layers(rt: HostRuntime) {
+    assert_eq!(rt; Offset::new(Tall { height: 253 }, 0, 1).height(), 254);
+    assert_eq!(rt;
+        Offset::new(Offset::new(Tall { height: 254 }, 0, 1), 0, 1).height(),
+        255
+    );
+    assert_eq!(rt;
+        Mirror::new(Tall { height: 3 }, Tall { height: 255 }).height(),
+        255
+    );
+}
+
 // A device that only says that it stands at another height.
 #[derive(Drop)]
-struct Tall<D: Device> {
+struct Raised<D: Device> {
     lower: D,
     height: u8,
     ghost low: { height ≤ most_height },
 }
 
-impl<D: Device> Device for Tall<D> {
+impl<D: Device> Device for Raised<D> {
     ghost meaning = { λ d. raised d.height (D.Device.meaning d.lower) };
 
-    ghost sound = { λ d. sound_raised d.height (D.Device.meaning d.lower) d.low (D.Device.sound d.lower) };
+    ghost kept = { λ d. D.Device.kept d.lower };
+
+    ghost sound = { λ d k. sound_raised d.height (D.Device.meaning d.lower) d.low (D.Device.sound d.lower k) };
 
     ghost does = { λ _ _ _. Unit {0} };
 
@@ -231,14 +308,14 @@ fn one_sector_at<'a>(
     heap: Global,
     bytes: &'a mut [u8; SECTOR],
     height: u8,
-) -> Result<Tall<Drive<'a>>, AllocError> {
+) -> Result<Raised<Drive<'a>>, AllocError> {
     let lower = Drive::new(heap, bytes, NONE)?;
-    Ok(Tall { lower, height })
+    Ok(Raised { lower, height })
 }
 
-// No layer stands higher than 255.
+// An open layer stands no higher either.
 #[test]
-fn the_highest_layers(rt: HostRuntime) -> Result<(), Fail> {
+fn the_highest_open_layers(rt: HostRuntime) -> Result<(), Fail> {
     let heap = rt.alloc();
     let (mut a, mut b) = ([0; SECTOR], [0; SECTOR]);
     let one = Offset::new(one_sector_at(heap, &mut a, 253)?, 0, 1);

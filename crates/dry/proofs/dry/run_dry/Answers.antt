@@ -4,12 +4,13 @@ use Rattle.dry.proofs.DryFacts.{fewer, waiting_short}
 use Rattle.dry.proofs.dry.run_dry.Goals as goal
 
 pub loop-init : goal.loop-init
-loop-init g c = (omega (arith, waiting_short), (0, Turning.none, refl))
+loop-init g c = λ k. (let o = c.open_tickets-end.ensures k in (k, omega (arith, o, waiting_short), (0, Turning.none, refl)))
 
 pub loop-preserved : goal.loop-preserved
-loop-preserved g c =
-    let i = c.loop.invariant in
-    let b = c.turn.ensures.turns in (
-      fewer b i.0 c.loop-test.true,
-      (i.1.0 + c.turn.result, Turning.more i.1.1 b c.turn.ensures.did, omega arith),
+loop-preserved g c = λ k.
+    let i = c.loop.invariant k in
+    let b = c.turn.ensures.turns i.0 in (
+      c.turn.ensures.keeps i.0,
+      fewer b i.1 c.loop-test.true,
+      (i.2.0 + c.turn.result, Turning.more i.2.1 b (c.turn.ensures.did i.0), omega arith),
     )

@@ -10,13 +10,13 @@ use Rattle.history.proofs.OpenFacts.{open_asked}
 use Rattle.history.proofs.open.open_list.Goals as goal
 
 pub returns : goal.returns
-returns g c =
+returns g c = λ k.
     let ts = (g.D.Device.meaning c.args.device.now).tickets in
     let n = c.open_tickets.result in
     let asked : List OpenTicket = map (λ t. record { tag = t; state = state_of t ts }) (filter_map (λ i. tag_at i ts) (range_with_len 0 n)) in
     let r : IfOk c.collect.result (λ v. vec_items v ≡ asked) = items_from_collect _ c.collect.ensures.ran
     (YieldsList-from_map _ (λ t. record { tag = t; state = state_of t ts })
     (YieldsList-at c.map.ensures.source
-    (YieldsList-from_filter_map _ (λ i. tag_at i ts) (YieldsList-from_range 0 n n c.filter_map.ensures.source (omega arith)) c.filter_map.ensures.closure (λ x r q k. search rules)))
-    c.map.ensures.closure (λ x r q k. search rules)) in
-    IfOk-weaker c.collect.result (λ v. vec_items v ≡ asked) (λ v. vec_items v ≡ open_list ts) (λ v e. e ∙ open_asked ts n (g.D.Device.sound c.args.device.now).tags c.open_tickets.ensures) r
+    (YieldsList-from_filter_map _ (λ i. tag_at i ts) (YieldsList-from_range 0 n n c.filter_map.ensures.source (omega arith)) c.filter_map.ensures.closure (λ x r q s. search (rules, k))))
+    c.map.ensures.closure (λ x r q s. search (rules, k))) in
+    IfOk-weaker c.collect.result (λ v. vec_items v ≡ asked) (λ v. vec_items v ≡ open_list ts) (λ v e. e ∙ open_asked ts n (g.D.Device.sound c.args.device.now k).tags (c.open_tickets.ensures k)) r

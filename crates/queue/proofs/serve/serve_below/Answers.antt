@@ -9,20 +9,29 @@ returns g c =
     let k = c.args.kind in
     let before = c.args.buffer.now in
     let given : take c.min-given.result before ≡ sent k c.args.count before = grind (arith, take_min) in
-    let tried : Tried g.D.Device.meaning g.D.Device.does c.args.below.now c.collect.new.self k c.args.first c.args.count before c.collect.new.buffer c.args.tick c.turn-ticks.result c.unwrap_or-mask.result = record {
+    let tried : g.D.Device.kept c.args.below.now → Tried g.D.Device.meaning g.D.Device.does c.args.below.now c.collect.new.self k c.args.first c.args.count before c.collect.new.buffer c.args.tick c.turn-ticks.result c.unwrap_or-mask.result
+    = λ b.
+    let e = c.submit.ensures.keeps b in
+    let t = c.turn-ticks.ensures.keeps e in
+    record {
       entered = c.submit.new.self;
       turned = c.turn-ticks.new.self;
       accepts = c.submit.result;
       gives = c.collect.result;
-      submit_answers = rw (c.from.ensures, given) at c.submit.ensures.answers;
-      submit_leaves = rw (c.from.ensures, given) at c.submit.ensures.leaves;
-      submits = rw (c.from.ensures, given) at c.submit.ensures.did;
-      turn_leaves = c.turn-ticks.ensures.turns;
-      turns = c.turn-ticks.ensures.did;
-      collect_answers = c.collect.ensures.answers;
-      collect_hands = c.collect.ensures.hands;
-      collect_leaves = c.collect.ensures.leaves;
-      collects = c.collect.ensures.did;
+      submit_answers = rw (c.from.ensures, given) at c.submit.ensures.answers b;
+      submit_leaves = rw (c.from.ensures, given) at c.submit.ensures.leaves b;
+      submits = rw (c.from.ensures, given) at c.submit.ensures.did b;
+      turn_leaves = c.turn-ticks.ensures.turns e;
+      turns = c.turn-ticks.ensures.did e;
+      collect_answers = c.collect.ensures.answers t;
+      collect_hands = c.collect.ensures.hands t;
+      collect_leaves = c.collect.ensures.leaves t;
+      collects = c.collect.ensures.did t;
       mask_or_none = c.unwrap_or-mask.ensures;
     } in
-    record { tries = tried; serves = serves_tried tried; calls = calls_tried tried }
+    record {
+      keeps = λ b. c.collect.ensures.keeps (c.turn-ticks.ensures.keeps (c.submit.ensures.keeps b));
+      tries = tried;
+      serves = λ b. serves_tried (tried b);
+      calls = λ b. calls_tried (tried b);
+    }

@@ -4,4 +4,4 @@ use Rattle.drive.specs.SoundFacts.{kept_of}
 use Rattle.drive.proofs.as_device.DriveDevice.tag_at.Goals as goal
 
 pub returns : goal.returns
-returns c = c.tag_at.ensures ∙ tag_kept (kept_of c.args.self.now) c.args.i
+returns c = λ _. c.tag_at.ensures ∙ tag_kept (kept_of c.args.self.now) c.args.i

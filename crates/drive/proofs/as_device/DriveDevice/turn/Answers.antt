@@ -21,8 +21,9 @@ returns c =
     let k = kept_of d in
     let fits = fits_of d in
     record {
-      turns = rw (e.ticks, e.shape.size, e.shape.capacity, e.shape.named, e.places, e.entries, e.bytes) (turn_turns f.size f.capacity f.named ps d.arm es row d.holds fits k d.reach);
-      did = record {
+      keeps = λ k. k;
+      turns = λ _. rw (e.ticks, e.shape.size, e.shape.capacity, e.shape.named, e.places, e.entries, e.bytes) (turn_turns f.size f.capacity f.named ps d.arm es row d.holds fits k d.reach);
+      did = λ _. record {
         ticks = e.ticks;
         tickets = rw (e.shape.size, e.shape.named, e.places, e.entries, e.bytes) (turn_oldest f.size f.capacity f.named ps d.arm es row d.holds fits k);
         arm = e.arm;

@@ -7,4 +7,4 @@ pub returns : goal.returns
 returns c =
     let e = c.collect.ensures in
     let k = collects_kept (kept_of c.args.self.now) c.args.tag c.args.buffer.now in
-    record { answers = e.answers ∙ k.answers; hands = e.hands ∙ k.hands; leaves = rw (e.shape.size, e.shape.capacity, e.shape.named, e.places) k.leaves; did = refl }
+    record { keeps = λ k. k; answers = λ _. e.answers ∙ k.answers; hands = λ _. e.hands ∙ k.hands; leaves = λ _. rw (e.shape.size, e.shape.capacity, e.shape.named, e.places) k.leaves; did = λ _. refl }

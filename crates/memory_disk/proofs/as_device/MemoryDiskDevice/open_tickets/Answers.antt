@@ -4,4 +4,4 @@ use Rattle.memory_disk.specs.SoundFacts.{kept_of}
 use Rattle.memory_disk.proofs.as_device.MemoryDiskDevice.open_tickets.Goals as goal
 
 pub returns : goal.returns
-returns c = c.open_tickets.ensures ∙ length_kept (kept_of c.args.self.now)
+returns c = λ _. c.open_tickets.ensures ∙ length_kept (kept_of c.args.self.now)

@@ -7,4 +7,4 @@ pub returns : goal.returns
 returns c =
     let e = c.submit.ensures in
     let k = submits_kept (kept_of c.args.self.now) c.args.request c.args.bytes.now in
-    record { answers = e.answers ∙ k.answers; leaves = rw (e.shape.size, e.shape.capacity, e.shape.named, e.places) k.leaves; did = refl }
+    record { keeps = λ k. k; answers = λ _. e.answers ∙ k.answers; leaves = λ _. rw (e.shape.size, e.shape.capacity, e.shape.named, e.places) k.leaves; did = λ _. refl }

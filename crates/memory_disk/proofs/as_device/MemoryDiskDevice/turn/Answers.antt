@@ -12,8 +12,9 @@ returns c =
     let k = kept_of c.args.self.now in
     let e = c.serve_oldest.ensures in
     record {
-      turns = rw (e.ticks, e.shape.size, e.shape.capacity, e.shape.named, e.places, e.bytes) (turn_turns f.size f.capacity f.named ps row h k);
-      did = record {
+      keeps = λ k. k;
+      turns = λ _. rw (e.ticks, e.shape.size, e.shape.capacity, e.shape.named, e.places, e.bytes) (turn_turns f.size f.capacity f.named ps row h k);
+      did = λ _. record {
         ticks = e.ticks;
         tickets = rw (e.shape.size, e.shape.named, e.places, e.bytes) (turn_oldest f.size f.capacity f.named ps row h k);
         bytes = e.bytes;

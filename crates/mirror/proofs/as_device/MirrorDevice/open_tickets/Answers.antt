@@ -3,7 +3,7 @@ use Rattle.mirror.proofs.Tickets.{shows}
 use Rattle.mirror.proofs.as_device.MirrorDevice.open_tickets.Goals as goal
 
 pub returns : goal.returns
-returns g c =
+returns g c = λ k.
     let d = c.args.self.now in
-    let s = shows d.left.shut d.right.shut (g.L.Device.sound d.left.lower) (g.R.Device.sound d.right.lower) d.level in
-    c.open_tickets.ensures ∙ sym s.many
+    let s = shows d.left.shut d.right.shut (g.L.Device.sound d.left.lower k.0) (g.R.Device.sound d.right.lower k.1) k.3 in
+    c.open_tickets.ensures k.0 ∙ sym s.many

@@ -1,7 +1,14 @@
+use Rattle.std.proofs.Common.{◌≡◌, ◌≤◌, rules, arith, ◌∙◌}
 use Rattle.mirror.proofs.Tickets.{short_bytes}
 use Rattle.mirror.proofs.mirror.Mirror.bytes_due.Goals as goal
 
-pub returns-else-space-n-clause-short : goal.returns-else-space-n-clause-short
-returns-else-space-n-clause-short g c =
+-- no run is longer than fits
+pub returns-else-space-n-clause-answers : goal.returns-else-space-n-clause-answers
+returns-else-space-n-clause-answers g c = λ k.
     let d = c.args.self.now in
-    rw c.byte_count-n.ensures (short_bytes d.left.shut d.right.shut c.args.tag (g.L.Device.sound d.left.lower) (g.R.Device.sound d.right.lower) d.level)
+    let short : c.byte_count.result ≤ 1024
+    = rw (c.byte_count.ensures k) (short_bytes d.left.shut d.right.shut c.args.tag (g.L.Device.sound d.left.lower k.0) (g.R.Device.sound d.right.lower k.1) k.3) in
+    let whole : c.min-n.result ≡ c.byte_count.result = omega (arith, c.min-n.ensures) in
+    let same = whole ∙ c.byte_count.ensures k in
+    let ready = c.state.ensures k in
+    search (rules, same, ready)

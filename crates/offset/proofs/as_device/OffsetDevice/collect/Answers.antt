@@ -8,24 +8,31 @@ use Rattle.offset.proofs.as_device.OffsetDevice.collect.Goals as goal
 pub invariant_of-self : goal.invariant_of-self
 invariant_of-self g c =
     let d = c.args.self.now in
-    record { within = subst (Within d.base d.most) (sym c.collect.ensures.leaves) (collect_within d.base d.most _ c.args.tag (length c.args.buffer.now) d.within) }
+    record { within = λ a. subst (Within d.base d.most) (sym (c.collect.ensures.leaves (a d.lower.lower))) (collect_within d.base d.most _ c.args.tag (length c.args.buffer.now) (d.within a)) }
+
+pub returns-clause-keeps : goal.returns-clause-keeps
+returns-clause-keeps g c = λ k.
+    let d = c.args.self.now in
+    let e = c.collect.ensures in
+    (e.keeps k.0, subst (Within d.base d.most) (sym (e.leaves k.0)) (collect_within d.base d.most _ c.args.tag (length c.args.buffer.now) k.1))
 
 pub returns-clause-answers : goal.returns-clause-answers
-returns-clause-answers g c =
+returns-clause-answers g c = λ k.
     let d = c.args.self.now in
     let d' = c.collect.new.self in
     let m = gated d.lower.shut (g.D.Device.meaning d.lower.lower) in
     let m' = gated d'.shut (g.D.Device.meaning d'.lower) in
-    let h = height_collected m m' c.args.tag (length c.args.buffer.now) c.collect.ensures.leaves in
-    mapped _ (layer_height m'.height) c.collect.result c.map_err.result c.map_err.ensures.cases (λ f y k. search rules)
-    ∙ (ap₂ at_height (ap layer_height h) c.collect.ensures.answers ∙ collect_answers d.base d.most _ c.args.tag (length c.args.buffer.now))
+    let after : g.D.Device.kept d'.lower × Within d.base d.most m' = (c.collect.ensures.keeps k.0, subst (Within d.base d.most) (sym (c.collect.ensures.leaves k.0)) (collect_within d.base d.most _ c.args.tag (length c.args.buffer.now) k.1)) in
+    let h = height_collected m m' c.args.tag (length c.args.buffer.now) (c.collect.ensures.leaves k.0) in
+    mapped _ (layer_height m'.height) c.collect.result c.map_err.result c.map_err.ensures.cases (λ f y s. search (rules, after))
+    ∙ (ap₂ at_height (ap layer_height h) (c.collect.ensures.answers k.0) ∙ collect_answers d.base d.most _ c.args.tag (length c.args.buffer.now))
 
 pub returns-clause-hands : goal.returns-clause-hands
-returns-clause-hands g c =
+returns-clause-hands g c = λ k.
     let d = c.args.self.now in
-    c.collect.ensures.hands ∙ collect_hands d.base d.most (gated d.lower.shut (g.D.Device.meaning d.lower.lower)) c.args.tag c.args.buffer.now
+    c.collect.ensures.hands k.0 ∙ collect_hands d.base d.most (gated d.lower.shut (g.D.Device.meaning d.lower.lower)) c.args.tag c.args.buffer.now
 
 pub returns-clause-leaves : goal.returns-clause-leaves
-returns-clause-leaves g c =
+returns-clause-leaves g c = λ k.
     let d = c.args.self.now in
-    ap (over d.base d.most) c.collect.ensures.leaves ∙ collect_leaves d.base d.most _ c.args.tag (length c.args.buffer.now)
+    ap (over d.base d.most) (c.collect.ensures.leaves k.0) ∙ collect_leaves d.base d.most _ c.args.tag (length c.args.buffer.now)

@@ -4,9 +4,14 @@ use Rattle.offset.proofs.as_device.OffsetDevice.turn.Goals as goal
 pub invariant_of-self : goal.invariant_of-self
 invariant_of-self g c =
     let d = c.args.self.now in
-    record { within = turn_within d.base d.most _ _ c.turn.result c.turn.ensures.turns d.within }
+    record { within = λ a. turn_within d.base d.most _ _ c.turn.result (c.turn.ensures.turns (a d.lower.lower)) (d.within a) }
+
+pub returns-clause-keeps : goal.returns-clause-keeps
+returns-clause-keeps g c = λ k.
+    let d = c.args.self.now in
+    (c.turn.ensures.keeps k.0, turn_within d.base d.most _ _ c.turn.result (c.turn.ensures.turns k.0) k.1)
 
 pub returns-clause-turns : goal.returns-clause-turns
-returns-clause-turns g c =
+returns-clause-turns g c = λ k.
     let d = c.args.self.now in
-    turn_over d.base d.most _ _ c.turn.result c.turn.ensures.turns d.within
+    turn_over d.base d.most _ _ c.turn.result (c.turn.ensures.turns k.0) k.1

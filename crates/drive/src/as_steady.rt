@@ -1,0 +1,7 @@
+// Every drive is kept.
+use crate::drive::Drive;
+use device::Steady;
+
+impl Steady for Drive<'_> {
+    ghost always = { λ d. tt };
+}
