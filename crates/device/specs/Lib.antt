@@ -10,4 +10,3 @@ pub mod Fault
 pub mod Layers
 pub mod Lookup
 pub mod Words
-pub mod Always

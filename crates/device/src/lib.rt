@@ -8,7 +8,6 @@ mod height;
 mod interface;
 mod numbers;
 mod refusals;
-mod steady;
 mod words;
 
 pub use device::Device;
@@ -18,4 +17,3 @@ pub use form::{LONGEST_RUN, MOST_SECTORS, MOST_TICKETS, RUN_BYTES, SECTOR, exami
 pub use height::layer_height;
 pub use interface::{Cause, Home, Kind, Refusal, Request, State};
 pub use refusals::refused;
-pub use steady::Steady;

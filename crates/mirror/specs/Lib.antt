@@ -1,4 +1,3 @@
 pub mod Means
 pub mod Turn
 pub mod SoundFacts
-pub mod LevelFacts

@@ -1,7 +1,6 @@
 #![tactic(auto)]
 
 mod as_device;
-mod as_steady;
 mod mirror;
 mod mix;
 

@@ -1,24 +1,18 @@
 // Two devices that hold the same: what one has lost, the other shows.
 ghost use Rattle.std.specs.Prelude.{◌≡◌, ℕ, ◌≤◌, IfOk};
-ghost use Rattle.device.specs.Always.{Always};
 ghost use Rattle.device.specs.Collect.{due};
 ghost use Rattle.device.specs.Meaning.{refused_by, run_bytes};
 ghost use Rattle.device.specs.Submit.{admitted};
-ghost use Rattle.gate.specs.Means.{gated};
-ghost use Rattle.mirror.specs.Means.{Level, room_due, set_up, shut_both};
-ghost use Rattle.mirror.specs.LevelFacts.{Agree-prop};
+ghost use Rattle.mirror.specs.Means.{room_due, set_up, shut_both};
 
 use device::{Cause, Device, Kind, RUN_BYTES, Refusal, Request, State, examine};
 use gate::{Gate, must_shut};
 
-/// Two devices as one: every request goes to both sides, through gates that are open or shut together. Over sides that are kept this is
-/// part of `kept`, and where every value of both is kept it holds of every mirror.
+/// Two devices as one: every request goes to both sides, through gates that are open or shut together.
 #[derive(Drop)]
-pub struct Mirror<L: Device, R: Device> {
+pub struct Mirror<L, R> {
     pub(crate) left: Gate<L>,
     pub(crate) right: Gate<R>,
-    ghost together: { Always L.kept → Always R.kept → right.shut ≡ left.shut },
-    ghost level: { Always L.kept → Always R.kept → Level (gated left.shut (L.meaning left.lower)) (gated right.shut (R.meaning right.lower)) } by { Prim.hlevel Agree-prop },
 }
 
 /// Whether a mirror of the sides only asks questions: one of them has open tickets, or no room for any.
@@ -77,12 +71,12 @@ impl<L: Device, R: Device> Mirror<L, R> {
             State::NotOpen => Err(Cause::NotOpen),
             State::Waiting => Err(Cause::Waits),
             State::Ready => {
-                // A side that is kept has no more; one that is not may say any number, and no more is patched.
-                let n = (self.byte_count(tag) as usize).min(RUN_BYTES);
+                let n = self.byte_count(tag) as usize;
                 if space < n {
                     Err(Cause::ShortBuffer)
                 } else {
-                    Ok(n)
+                    // A side that is kept has no more; one that is not may say any number, and no more is patched.
+                    Ok(n.min(RUN_BYTES))
                 }
             }
         }

@@ -1,7 +1,6 @@
--- Lemmas, no definitions to believe: an offset over a sound device is sound, and what it keeps to has one proof at most. They
--- stand here because a ghost member or field can cite this crate's lemmas only from specs/.
+-- Lemmas, no definitions to believe: an offset over a sound device is sound. They stand here because the layer's ghost member
+-- can cite this crate's lemmas only from specs/.
 use Rattle.std.specs.Prelude.{◌≡◌, ℕ, zero, suc, ◌+◌, ◌-◌, ◌≤◌, Bool, true, ◌&&◌, List, [], ◌∷◌, map, nat_lt, refl}
-use Rattle.std.specs.Coded.{le_prop}
 use Rattle.std.proofs.Common.{ap, ◌∙◌, ⊎_elim, arith}
 use Rattle.std.proofs.lemmas.Bool.Decides.{nat_tests}
 use Rattle.std.proofs.lemmas.Bool.{cases_Bool}
@@ -13,14 +12,6 @@ use Rattle.device.specs.Submit.{fair_count, tag_is_open}
 use Rattle.device.specs.Turns.{none_ready, flush_free, flush_order}
 use Rattle.device.specs.Sound.{Sound, WellFormed, Each, distinct}
 use Rattle.offset.specs.Means.{room, shifted, over, Lies, Within}
-
-module _ (base n size : ℕ) where
-  lies_prop : (t : Ticket) → IsProp (Lies base n size t)
-  lies_prop t = hlevel le_prop
-
-  pub each_lies_prop : (ts : List Ticket) → IsProp (Each (Lies base n size) ts)
-  each_lies_prop [] = hlevel
-  each_lies_prop (t ∷ ts) = hlevel (lies_prop t, each_lies_prop ts)
 
 module _ (base : ℕ) where
   pub open_shifted : (t : ℕ) (ts : List Ticket) → tag_is_open t (map (shifted base) ts) ≡ tag_is_open t ts

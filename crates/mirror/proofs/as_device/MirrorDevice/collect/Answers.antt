@@ -16,14 +16,6 @@ collected g c k =
     collects d.left.shut d.right.shut c.args.buffer.now _ (g.L.Device.sound d.left.lower k.0) (g.R.Device.sound d.right.lower k.1) k.3
     (c.bytes_due.ensures.answers k) c.map_err.ensures.cases c.in_ok-n.was (e.answers k.0) (e.hands k.0) (e.leaves k.0) (f.answers k.1) (f.hands k.1) (f.leaves k.1)
 
-pub invariant_of-self : goal.invariant_of-self
-invariant_of-self g c =
-    let d = c.args.self.now in
-    record {
-      together = λ a b. (c.collect-2.ensures.did (b d.right.lower)).same ∙ (d.together a b ∙ sym (c.collect.ensures.did (a d.left.lower)).same);
-      level = λ a b. (collected g c (a d.left.lower, b d.right.lower, d.together a b, d.level a b)).level;
-    }
-
 pub returns-clause-keeps : goal.returns-clause-keeps
 returns-clause-keeps g c = λ k. (
   c.collect.ensures.keeps k.0,

@@ -14,14 +14,6 @@ sent g c k =
     submits d.left.shut d.right.shut c.args.request c.args.bytes.now _ (g.L.Device.sound d.left.lower k.0) (g.R.Device.sound d.right.lower k.1) k.3
     (c.admit.ensures k) c.map_err.ensures.cases c.in_ok-map_err.was (c.submit.ensures.leaves k.0) (c.submit-2.ensures.leaves k.1)
 
-pub invariant_of-self : goal.invariant_of-self
-invariant_of-self g c =
-    let d = c.args.self.now in
-    record {
-      together = λ a b. (c.submit-2.ensures.did (b d.right.lower)).same ∙ (d.together a b ∙ sym (c.submit.ensures.did (a d.left.lower)).same);
-      level = λ a b. (sent g c (a d.left.lower, b d.right.lower, d.together a b, d.level a b)).0.level;
-    }
-
 pub returns-clause-keeps : goal.returns-clause-keeps
 returns-clause-keeps g c = λ k. (
   c.submit.ensures.keeps k.0,

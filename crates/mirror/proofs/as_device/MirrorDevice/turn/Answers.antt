@@ -21,14 +21,6 @@ left_same g c k = turning_same g.L.Device.meaning g.L.Device.does c.args.tick (c
 right_same : (g : _) (c : After-run_dry-2 g) → g.R.Device.kept c.args.self.now.right.lower → c.run_dry-2.new.device.shut ≡ c.args.self.now.right.shut
 right_same g c k = turning_same g.R.Device.meaning g.R.Device.does c.args.tick (c.run_dry-2.ensures.dries k).turned
 
-pub invariant_of-self : goal.invariant_of-self
-invariant_of-self g c =
-    let d = c.args.self.now in
-    record {
-      together = λ a b. right_same g c (b d.right.lower) ∙ (d.together a b ∙ sym (left_same g c (a d.left.lower)));
-      level = λ a b. (turned g c (a d.left.lower, b d.right.lower, d.together a b, d.level a b)).level;
-    }
-
 pub returns-clause-keeps : goal.returns-clause-keeps
 returns-clause-keeps g c = λ k.
     let w = (goal.at.returns-clause-keeps g c).After-run_dry-2 in

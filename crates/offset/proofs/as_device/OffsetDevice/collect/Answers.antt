@@ -5,11 +5,6 @@ use Rattle.offset.specs.Means.{Within, over}
 use Rattle.offset.proofs.OffsetCalls.{at_height, mapped, collect_answers, collect_hands, collect_leaves, collect_within, height_collected}
 use Rattle.offset.proofs.as_device.OffsetDevice.collect.Goals as goal
 
-pub invariant_of-self : goal.invariant_of-self
-invariant_of-self g c =
-    let d = c.args.self.now in
-    record { within = λ a. subst (Within d.base d.most) (sym (c.collect.ensures.leaves (a d.lower.lower))) (collect_within d.base d.most _ c.args.tag (length c.args.buffer.now) (d.within a)) }
-
 pub returns-clause-keeps : goal.returns-clause-keeps
 returns-clause-keeps g c = λ k.
     let d = c.args.self.now in

@@ -21,11 +21,6 @@ sent g c k =
     (ap (λ z. form z q (length c.args.bytes.now)) (sym (c.size.ensures k)) ∙ (sym c.examine.ensures ∙ passed _ c.examine.result c.map_err.result c.in_ok-kind.kind c.map_err.ensures.cases c.in_ok-kind.was))
     c.lowered-first.result (g.D.Device.sound d.lower.lower k.0).size c.lowered-first.ensures
 
-pub invariant_of-self : goal.invariant_of-self
-invariant_of-self g c =
-    let d = c.args.self.now in
-    record { within = λ a. subst (Within d.base d.most) (sym (c.submit.ensures.leaves (a d.lower.lower))) ((sent g c (a d.lower.lower, d.within a)).within (d.within a)) }
-
 pub returns-clause-keeps : goal.returns-clause-keeps
 returns-clause-keeps g c = λ k.
     let d = c.args.self.now in

@@ -1,11 +1,6 @@
 use Rattle.offset.proofs.OffsetCalls.{turn_within, turn_over}
 use Rattle.offset.proofs.as_device.OffsetDevice.turn.Goals as goal
 
-pub invariant_of-self : goal.invariant_of-self
-invariant_of-self g c =
-    let d = c.args.self.now in
-    record { within = λ a. turn_within d.base d.most _ _ c.turn.result (c.turn.ensures.turns (a d.lower.lower)) (d.within a) }
-
 pub returns-clause-keeps : goal.returns-clause-keeps
 returns-clause-keeps g c = λ k.
     let d = c.args.self.now in
