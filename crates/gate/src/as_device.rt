@@ -3,8 +3,9 @@ ghost use Rattle.gate.specs.Means.{gated};
 ghost use Rattle.gate.specs.Turn.{Passed};
 ghost use Rattle.gate.specs.SoundFacts.{gated_sound};
 
+use crate::calls;
 use crate::gate::Gate;
-use device::{Cause, Device, Home, Refusal, Request, State, examine, refused};
+use device::{Device, Home, Refusal, Request, State};
 
 impl<D: Device> Device for Gate<D> {
     ghost meaning = { λ d. gated d.shut (D.Device.meaning d.lower) };
@@ -20,7 +21,7 @@ impl<D: Device> Device for Gate<D> {
     }
 
     fn capacity(&self) -> u32 {
-        self.opened().map_or(0, |lower| lower.capacity())
+        calls::capacity(&self.lower, self.shut)
     }
 
     fn height(&self) -> u8 {
@@ -28,20 +29,19 @@ impl<D: Device> Device for Gate<D> {
     }
 
     fn open_tickets(&self) -> u32 {
-        self.opened().map_or(0, |lower| lower.open_tickets())
+        calls::open_tickets(&self.lower, self.shut)
     }
 
     fn tag_at(&self, i: u32) -> Option<u32> {
-        self.opened()?.tag_at(i)
+        calls::tag_at(&self.lower, self.shut, i)
     }
 
     fn state(&self, tag: u32) -> State {
-        self.opened()
-            .map_or(State::NotOpen, |lower| lower.state(tag))
+        calls::state(&self.lower, self.shut, tag)
     }
 
     fn byte_count(&self, tag: u32) -> u32 {
-        self.opened().map_or(0, |lower| lower.byte_count(tag))
+        calls::byte_count(&self.lower, self.shut, tag)
     }
 
     fn home(&self, sector: u32) -> Option<Home> {
@@ -49,26 +49,14 @@ impl<D: Device> Device for Gate<D> {
     }
 
     fn submit(&mut self, request: Request, bytes: &[u8], tick: u32) -> Result<(), Refusal> {
-        if !self.shut {
-            return self.lower.submit(request, bytes, tick);
-        }
-        let cause = examine(request, bytes.len(), self.lower.size())
-            .err()
-            .unwrap_or(Cause::Full);
-        Err(refused(&self.lower, cause))
+        calls::submit(&mut self.lower, self.shut, request, bytes, tick)
     }
 
     fn turn(&mut self, tick: u32) -> u32 {
-        if self.shut {
-            return 0;
-        }
-        self.lower.turn(tick)
+        calls::turn(&mut self.lower, self.shut, tick)
     }
 
     fn collect(&mut self, tag: u32, buffer: &mut [u8]) -> Result<u8, Refusal> {
-        if self.shut {
-            return Err(refused(&self.lower, Cause::NotOpen));
-        }
-        self.lower.collect(tag, buffer)
+        calls::collect(&mut self.lower, self.shut, tag, buffer)
     }
 }

@@ -1,5 +1,5 @@
 // A device that passes every call down, or has no room for tickets.
-ghost use Rattle.std.specs.Prelude.{◌≡◌, true, false, MatchOption};
+ghost use Rattle.std.specs.Prelude.{◌≡◌};
 ghost use Rattle.device.specs.Layers.{shut_over};
 
 use device::Device;
@@ -34,12 +34,5 @@ impl<D: Device> Gate<D> {
     {
         let shut = must_shut(&lower);
         Gate::new(lower, shut)
-    }
-
-    /// The device below, where the gate is open.
-    pub(crate) fn opened(&self) -> Option<&D>
-        ensures { MatchOption result (self.now.shut ≡ true) (λ lower. (self.now.shut ≡ false) × (lower.now ≡ self.now.lower)) }
-    {
-        (!self.shut).then_some(&self.lower)
     }
 }

@@ -2,15 +2,8 @@
 use Rattle.std.proofs.Common.{◌≡◌, ℕ, ◌+◌, min, max, Bool, true, false, cond, List, [], ◌∷◌, sym, refl, ap, ◌∙◌, subst, ap₂, ⊎_elim, arith}
 use Rattle.std.proofs.lemmas.Bool.{cases_Bool}
 use Rattle.device.specs.Meaning.{Meaning, Ticket, Contents, is_flush}
-use Rattle.device.specs.Told.{Told}
-use Rattle.device.specs.Sound.{Sound}
 use Rattle.device.specs.Turns.{Turned, Readied, Flushed, waiting, made_ready, flush_order, open_write_at, waiting_write_at}
-use Rattle.dry.specs.Dry.{Turning, Dry}
-use Rattle.dry.proofs.DryFacts.{Dried, dried, all_ready_now, made_same}
-use Rattle.gate.specs.declared.gate.Gate.{Gate}
-use Rattle.gate.specs.Means.{gated}
-use Rattle.gate.specs.Turn.{Passed}
-use Rattle.gate.specs.SoundFacts.{gated_sound}
+use Rattle.dry.proofs.DryFacts.{Dried, all_ready_now, made_same}
 use Rattle.mirror.specs.Means.{both, either, paired, all_paired, mirrored, Level}
 use Rattle.mirror.specs.SoundFacts.{Pairs, pairs, agree, pairs_paired}
 
@@ -111,40 +104,3 @@ turns_both a b {a'} {b'} l f g =
         bounded = (let x = f.bounded in let y = g.bounded in omega arith);
       };
     }
-
--- A device behind a gate, run dry
-
-module _ {D : Type 0} (meaning : D → Meaning) (does : D → Told → D → Type 0) (tick : ℕ) where
-  abbrev gate_means : Gate D → Meaning
-  gate_means d = gated d.shut (meaning d.lower)
-
-  abbrev gate_does : Gate D → Told → Gate D → Type 0
-  gate_does d e x = Passed does d.shut d.lower e x.shut x.lower
-
-  pub turning_same : {d d' : Gate D} {sum : ℕ} → Turning gate_means gate_does tick d d' sum → d'.shut ≡ d.shut
-  turning_same Turning.none = refl
-  turning_same (Turning.more r t w) = w.same ∙ turning_same r
-
-  -- a shut gate leaves the device as it is
-  pub turning_shut : {d d' : Gate D} {sum : ℕ} → Turning gate_means gate_does tick d d' sum → d.shut ≡ true → d'.lower ≡ d.lower
-  turning_shut Turning.none s = refl
-  turning_shut (Turning.more r t w) s = w.rests (turning_same r ∙ s) ∙ turning_shut r s
-
-  -- an open one turns it
-  turning_open : {d d' : Gate D} {sum : ℕ} → Turning gate_means gate_does tick d d' sum → d.shut ≡ false → Turning meaning does tick d.lower d'.lower sum
-  turning_open Turning.none s = Turning.none
-  turning_open (Turning.more {d₁} {d₂} {t = n} r t w) s =
-      let o = turning_same r ∙ s in
-      let p = w.same ∙ o in
-      Turning.more (turning_open r s) (rw (o, p) at t) (w.passes o)
-
-  pub dry_open : {d d' : Gate D} {ticks : ℕ} → Dry gate_means gate_does tick d d' ticks → d.shut ≡ false → Dry meaning does tick d.lower d'.lower ticks
-  dry_open r s = record {
-    sum = r.sum;
-    turned = turning_open r.turned s;
-    answer = r.answer;
-    done = rw (turning_same r.turned ∙ s) at r.done;
-  }
-
-  pub gate_dried : {d d' : Gate D} {ticks : ℕ} → Sound (meaning d.lower) → Dry gate_means gate_does tick d d' ticks → Dried (gate_means d) (gate_means d') ticks
-  gate_dried {d} v r = dried gate_means gate_does tick r (gated_sound d.shut (meaning d.lower) v).flush_order

@@ -1,5 +1,6 @@
 // The mirror as a device over any two devices.
-ghost use Rattle.std.specs.Prelude.{◌≡◌};
+ghost use Rattle.gate.specs.Means.{gated};
+ghost use Rattle.gate.specs.SoundFacts.{gated_sound};
 ghost use Rattle.mirror.specs.Means.{mirrored, Level};
 ghost use Rattle.mirror.specs.Turn.{Acts};
 ghost use Rattle.mirror.specs.SoundFacts.{mirrored_sound};
@@ -8,23 +9,23 @@ use crate::mirror::Mirror;
 use crate::mix::{mask_in, patch};
 use device::{Device, Home, RUN_BYTES, Refusal, Request, SECTOR, State, layer_height};
 use dry::run_dry;
-use gate::Gate;
+use gate::calls;
 
 impl<L: Device, R: Device> Device for Mirror<L, R> {
-    ghost meaning = { λ d. mirrored (⟦<Gate<L> as Device>⟧.meaning d.left) (⟦<Gate<R> as Device>⟧.meaning d.right) };
+    ghost meaning = { λ d. mirrored (gated d.shut (L.Device.meaning d.left)) (gated d.shut (R.Device.meaning d.right)) };
 
-    ghost kept = { λ d. ⟦<Gate<L> as Device>⟧.kept d.left × ⟦<Gate<R> as Device>⟧.kept d.right × (d.right.shut ≡ d.left.shut) × Level (⟦<Gate<L> as Device>⟧.meaning d.left) (⟦<Gate<R> as Device>⟧.meaning d.right) };
+    ghost kept = { λ d. L.Device.kept d.left × R.Device.kept d.right × Level (gated d.shut (L.Device.meaning d.left)) (gated d.shut (R.Device.meaning d.right)) };
 
-    ghost sound = { λ d k. mirrored_sound _ _ (⟦<Gate<L> as Device>⟧.sound d.left k.0) (⟦<Gate<R> as Device>⟧.sound d.right k.1) k.3 };
+    ghost sound = { λ d k. mirrored_sound _ _ (gated_sound d.shut (L.Device.meaning d.left) (L.Device.sound d.left k.0)) (gated_sound d.shut (R.Device.meaning d.right) (R.Device.sound d.right k.1)) k.2 };
 
-    ghost does = { λ d e x. Acts L.meaning L.does R.meaning R.does d.left.shut d.left.lower d.right.lower e x.left.lower x.right.lower };
+    ghost does = { λ d e x. Acts L.Device.meaning L.Device.does R.Device.meaning R.Device.does d.shut d.left d.right e x.left x.right };
 
     fn size(&self) -> u32 {
         self.left.size().min(self.right.size())
     }
 
     fn capacity(&self) -> u32 {
-        self.left.capacity().min(self.right.capacity())
+        calls::capacity(&self.left, self.shut).min(calls::capacity(&self.right, self.shut))
     }
 
     fn height(&self) -> u8 {
@@ -32,19 +33,19 @@ impl<L: Device, R: Device> Device for Mirror<L, R> {
     }
 
     fn open_tickets(&self) -> u32 {
-        self.left.open_tickets()
+        calls::open_tickets(&self.left, self.shut)
     }
 
     fn tag_at(&self, i: u32) -> Option<u32> {
-        self.left.tag_at(i)
+        calls::tag_at(&self.left, self.shut, i)
     }
 
     fn state(&self, tag: u32) -> State {
-        self.left.state(tag)
+        calls::state(&self.left, self.shut, tag)
     }
 
     fn byte_count(&self, tag: u32) -> u32 {
-        self.left.byte_count(tag)
+        calls::byte_count(&self.left, self.shut, tag)
     }
 
     fn home(&self, sector: u32) -> Option<Home> {
@@ -58,12 +59,15 @@ impl<L: Device, R: Device> Device for Mirror<L, R> {
         self.admit(request, bytes.len())
             .map_err(|cause| self.refused(cause))?;
         // Neither side refuses what the mirror admits.
-        let _ = self.left.submit(request, bytes, tick);
-        let _ = self.right.submit(request, bytes, tick);
+        let _ = calls::submit(&mut self.left, self.shut, request, bytes, tick);
+        let _ = calls::submit(&mut self.right, self.shut, request, bytes, tick);
         Ok(())
     }
 
     fn turn(&mut self, tick: u32) -> u32 {
+        if self.shut {
+            return 0;
+        }
         run_dry(&mut self.left, tick).max(run_dry(&mut self.right, tick))
     }
 
@@ -74,8 +78,8 @@ impl<L: Device, R: Device> Device for Mirror<L, R> {
         // Room for the longest run: memory is fixed, and a collect allocates nothing.
         let mut other = [0; RUN_BYTES];
         // Neither side refuses what the mirror has ready.
-        let first = mask_in(self.left.collect(tag, buffer));
-        let second = mask_in(self.right.collect(tag, &mut other));
+        let first = mask_in(calls::collect(&mut self.left, self.shut, tag, buffer));
+        let second = mask_in(calls::collect(&mut self.right, self.shut, tag, &mut other));
         patch(buffer, &other, first, n / SECTOR);
         Ok(first & second)
     }

@@ -6,13 +6,14 @@ ghost use Rattle.device.specs.Submit.{admitted};
 ghost use Rattle.mirror.specs.Means.{room_due, set_up, shut_both};
 
 use device::{Cause, Device, Kind, RUN_BYTES, Refusal, Request, State, examine};
-use gate::{Gate, must_shut};
+use gate::must_shut;
 
-/// Two devices as one: every request goes to both sides, through gates that are open or shut together.
+/// Two devices as one: every request goes to both sides; open, or shut so that it only asks questions below.
 #[derive(Drop)]
 pub struct Mirror<L, R> {
-    pub(crate) left: Gate<L>,
-    pub(crate) right: Gate<R>,
+    pub(crate) left: L,
+    pub(crate) right: R,
+    pub(crate) shut: bool,
 }
 
 /// Whether a mirror of the sides only asks questions: one of them has open tickets, or no room for any.
@@ -29,10 +30,7 @@ impl<L: Device, R: Device> Mirror<L, R> {
         ensures means { L.kept left → R.kept right → ⟦<Mirror<L, R> as Device>⟧.meaning result ≡ set_up (L.meaning left) (R.meaning right) }
     {
         let shut = must_shut_both(&left, &right);
-        Mirror {
-            left: Gate::new(left, shut),
-            right: Gate::new(right, shut),
-        }
+        Mirror { left, right, shut }
     }
 
     /// A refusal at the height of the mirror.

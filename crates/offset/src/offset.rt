@@ -3,12 +3,13 @@ ghost use Rattle.std.specs.Prelude.{◌≡◌};
 ghost use Rattle.offset.specs.Means.{set_up};
 
 use device::Device;
-use gate::Gate;
+use gate::must_shut;
 
-/// The sectors of a device from `base` on, `most` of them at most. Calls go below through a gate.
+/// The sectors of a device from `base` on, `most` of them at most; open, or shut so that it only asks questions below.
 #[derive(Drop)]
 pub struct Offset<D> {
-    pub(crate) lower: Gate<D>,
+    pub(crate) lower: D,
+    pub(crate) shut: bool,
     pub(crate) base: u32,
     pub(crate) most: u32,
 }
@@ -19,8 +20,10 @@ impl<D: Device> Offset<D> {
         ensures keeps { D.kept lower → ⟦<Offset<D> as Device>⟧.kept result }
         ensures means { D.kept lower → ⟦<Offset<D> as Device>⟧.meaning result ≡ set_up base most (D.meaning lower) }
     {
+        let shut = must_shut(&lower);
         Offset {
-            lower: Gate::over(lower),
+            lower,
+            shut,
             base,
             most,
         }

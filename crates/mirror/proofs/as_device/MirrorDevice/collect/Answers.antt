@@ -1,26 +1,25 @@
-use Rattle.std.proofs.Common.{◌≡◌, sym, ◌∙◌}
+use Rattle.std.proofs.Common.{◌∙◌}
 use Rattle.gate.specs.Means.{gated}
 use Rattle.mirror.specs.Means.{Level}
 use Rattle.mirror.proofs.Collects.{BothCollect, collects}
 use Rattle.mirror.proofs.as_device.MirrorDevice.collect.Goals.{After-collect-2}
 use Rattle.mirror.proofs.as_device.MirrorDevice.collect.Goals as goal
 
-collected : (g : _) (c : After-collect-2 g) → let d = c.args.self.now in let x = c.collect.new.self in let y = c.collect-2.new.self in
-    (g.L.Device.kept d.left.lower × g.R.Device.kept d.right.lower × (d.right.shut ≡ d.left.shut) × Level (gated d.left.shut (g.L.Device.meaning d.left.lower)) (gated d.right.shut (g.R.Device.meaning d.right.lower)))
-    → BothCollect (gated d.left.shut (g.L.Device.meaning d.left.lower)) (gated d.right.shut (g.R.Device.meaning d.right.lower)) (gated x.shut (g.L.Device.meaning x.lower)) (gated y.shut (g.R.Device.meaning y.lower))
+collected : (g : _) (c : After-collect-2 g) → let d = c.args.self.now in let x = c.collect.new.lower in let y = c.collect-2.new.lower in
+    (g.L.Device.kept d.left × g.R.Device.kept d.right × Level (gated d.shut (g.L.Device.meaning d.left)) (gated d.shut (g.R.Device.meaning d.right)))
+    → BothCollect (gated d.shut (g.L.Device.meaning d.left)) (gated d.shut (g.R.Device.meaning d.right)) (gated d.shut (g.L.Device.meaning x)) (gated d.shut (g.R.Device.meaning y))
     c.args.tag c.args.buffer.now c.collect.new.buffer c.collect-2.new.buffer c.collect.result c.collect-2.result c.in_ok-n.n
 collected g c k =
     let d = c.args.self.now in
     let e = c.collect.ensures in
     let f = c.collect-2.ensures in
-    collects d.left.shut d.right.shut c.args.buffer.now _ (g.L.Device.sound d.left.lower k.0) (g.R.Device.sound d.right.lower k.1) k.3
+    collects d.shut d.shut c.args.buffer.now _ (g.L.Device.sound d.left k.0) (g.R.Device.sound d.right k.1) k.2
     (c.bytes_due.ensures.answers k) c.map_err.ensures.cases c.in_ok-n.was (e.answers k.0) (e.hands k.0) (e.leaves k.0) (f.answers k.1) (f.hands k.1) (f.leaves k.1)
 
 pub returns-clause-keeps : goal.returns-clause-keeps
 returns-clause-keeps g c = λ k. (
   c.collect.ensures.keeps k.0,
   c.collect-2.ensures.keeps k.1,
-  (c.collect-2.ensures.did k.1).same ∙ (k.2 ∙ sym (c.collect.ensures.did k.0).same),
   (collected g (goal.at.returns-clause-keeps g c).After-collect-2 k).level,
 )
 

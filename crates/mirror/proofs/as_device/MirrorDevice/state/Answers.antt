@@ -5,5 +5,5 @@ use Rattle.mirror.proofs.as_device.MirrorDevice.state.Goals as goal
 pub returns : goal.returns
 returns g c = λ k.
     let d = c.args.self.now in
-    let s = shows d.left.shut d.right.shut (g.L.Device.sound d.left.lower k.0) (g.R.Device.sound d.right.lower k.1) k.3 in
+    let s = shows d.shut d.shut (g.L.Device.sound d.left k.0) (g.R.Device.sound d.right k.1) k.2 in
     c.state.ensures k.0 ∙ sym (s.state c.args.tag)

@@ -1,44 +1,45 @@
-use Rattle.std.proofs.Common.{◌≡◌, max, sym, ◌∙◌}
+use Rattle.std.proofs.Common.{max, true, sym, refl, subst}
+use Rattle.device.specs.Turns.{Turned}
+use Rattle.device.proofs.TurnFacts.{idle_turned}
+use Rattle.dry.proofs.DryFacts.{dried}
 use Rattle.gate.specs.Means.{gated}
-use Rattle.mirror.specs.Means.{Level}
-use Rattle.mirror.proofs.Turns.{BothTurn, turns_both, turning_same, turning_shut, dry_open, gate_dried}
+use Rattle.mirror.specs.Means.{mirrored, Level}
+use Rattle.mirror.proofs.Turns.{BothTurn, turns_both}
 use Rattle.mirror.proofs.as_device.MirrorDevice.turn.Goals.{After-run_dry-2}
 use Rattle.mirror.proofs.as_device.MirrorDevice.turn.Goals as goal
 
-turned : (g : _) (c : After-run_dry-2 g) → let d = c.args.self.now in let x = c.run_dry.new.device in let y = c.run_dry-2.new.device in
-    (g.L.Device.kept d.left.lower × g.R.Device.kept d.right.lower × (d.right.shut ≡ d.left.shut) × Level (gated d.left.shut (g.L.Device.meaning d.left.lower)) (gated d.right.shut (g.R.Device.meaning d.right.lower)))
-    → BothTurn (gated d.left.shut (g.L.Device.meaning d.left.lower)) (gated d.right.shut (g.R.Device.meaning d.right.lower)) (gated x.shut (g.L.Device.meaning x.lower)) (gated y.shut (g.R.Device.meaning y.lower))
-    (max c.run_dry.result c.run_dry-2.result)
+pub returns-then-self-clause-turns : goal.returns-then-self-clause-turns
+returns-then-self-clause-turns g c = λ _.
+    let a = g.L.Device.meaning c.args.self.now.left in
+    let b = g.R.Device.meaning c.args.self.now.right in
+    subst (λ s. Turned (mirrored (gated s a) (gated s b)) (mirrored (gated s a) (gated s b)) 0) (sym c.if-self.true) (idle_turned (mirrored (gated true a) (gated true b)) refl refl)
+
+-- an open mirror turns both sides dry
+turned : (g : _) (c : After-run_dry-2 g) → let d = c.args.self.now in
+    (g.L.Device.kept d.left × g.R.Device.kept d.right × Level (gated d.shut (g.L.Device.meaning d.left)) (gated d.shut (g.R.Device.meaning d.right)))
+    → BothTurn (g.L.Device.meaning d.left) (g.R.Device.meaning d.right) (g.L.Device.meaning c.run_dry.new.device) (g.R.Device.meaning c.run_dry-2.new.device) (max c.run_dry.result c.run_dry-2.result)
 turned g c k =
     let d = c.args.self.now in
-    turns_both _ _ k.3 (gate_dried g.L.Device.meaning g.L.Device.does c.args.tick (g.L.Device.sound d.left.lower k.0) (c.run_dry.ensures.dries k.0))
-    (gate_dried g.R.Device.meaning g.R.Device.does c.args.tick (g.R.Device.sound d.right.lower k.1) (c.run_dry-2.ensures.dries k.1))
-
--- the gates are as they were: both open, or both shut
-left_same : (g : _) (c : After-run_dry-2 g) → g.L.Device.kept c.args.self.now.left.lower → c.run_dry.new.device.shut ≡ c.args.self.now.left.shut
-left_same g c k = turning_same g.L.Device.meaning g.L.Device.does c.args.tick (c.run_dry.ensures.dries k).turned
-
-right_same : (g : _) (c : After-run_dry-2 g) → g.R.Device.kept c.args.self.now.right.lower → c.run_dry-2.new.device.shut ≡ c.args.self.now.right.shut
-right_same g c k = turning_same g.R.Device.meaning g.R.Device.does c.args.tick (c.run_dry-2.ensures.dries k).turned
+    turns_both (g.L.Device.meaning d.left) (g.R.Device.meaning d.right) (subst (λ s. Level (gated s (g.L.Device.meaning d.left)) (gated s (g.R.Device.meaning d.right))) c.if-self.false k.2)
+    (dried g.L.Device.meaning g.L.Device.does c.args.tick (c.run_dry.ensures.dries k.0) (g.L.Device.sound d.left k.0).flush_order)
+    (dried g.R.Device.meaning g.R.Device.does c.args.tick (c.run_dry-2.ensures.dries k.1) (g.R.Device.sound d.right k.1).flush_order)
 
 pub returns-clause-keeps : goal.returns-clause-keeps
 returns-clause-keeps g c = λ k.
-    let w = (goal.at.returns-clause-keeps g c).After-run_dry-2 in
-    (c.run_dry.ensures.keeps k.0, c.run_dry-2.ensures.keeps k.1, right_same g w k.1 ∙ (k.2 ∙ sym (left_same g w k.0)), (turned g w k).level)
+    let a = g.L.Device.meaning c.run_dry.new.device in
+    let b = g.R.Device.meaning c.run_dry-2.new.device in (
+      c.run_dry.ensures.keeps k.0,
+      c.run_dry-2.ensures.keeps k.1,
+      subst (λ s. Level (gated s a) (gated s b)) (sym c.if-self.false) (turned g (goal.at.returns-clause-keeps g c).After-run_dry-2 k).level,
+    )
 
 pub returns-clause-turns : goal.returns-clause-turns
-returns-clause-turns g c = λ k. rw c.max.ensures (turned g (goal.at.returns-clause-turns g c).After-run_dry-2 k).turned
-
-pub returns-clause-did : goal.returns-clause-did
-returns-clause-did g c = λ k.
-    let e = c.run_dry.ensures.dries k.0 in
-    let f = c.run_dry-2.ensures.dries k.1 in (
-      (λ s. (turning_shut g.L.Device.meaning g.L.Device.does c.args.tick e.turned s, turning_shut g.R.Device.meaning g.R.Device.does c.args.tick f.turned (k.2 ∙ s))),
-      (λ s. record {
-        left_ticks = c.run_dry.result;
-        right_ticks = c.run_dry-2.result;
-        left = dry_open g.L.Device.meaning g.L.Device.does c.args.tick e s;
-        right = dry_open g.R.Device.meaning g.R.Device.does c.args.tick f (k.2 ∙ s);
-        answer = c.max.ensures;
-      }),
-    )
+returns-clause-turns g c = λ k.
+    let d = c.args.self.now in
+    let a = g.L.Device.meaning d.left in
+    let b = g.R.Device.meaning d.right in
+    let a' = g.L.Device.meaning c.run_dry.new.device in
+    let b' = g.R.Device.meaning c.run_dry-2.new.device in
+    rw c.max.ensures
+    (subst (λ s. Turned (mirrored (gated s a) (gated s b)) (mirrored (gated s a') (gated s b')) (max c.run_dry.result c.run_dry-2.result)) (sym c.if-self.false)
+    (turned g (goal.at.returns-clause-turns g c).After-run_dry-2 k).turned)

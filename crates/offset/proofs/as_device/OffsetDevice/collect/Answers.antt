@@ -14,10 +14,10 @@ returns-clause-keeps g c = λ k.
 pub returns-clause-answers : goal.returns-clause-answers
 returns-clause-answers g c = λ k.
     let d = c.args.self.now in
-    let d' = c.collect.new.self in
-    let m = gated d.lower.shut (g.D.Device.meaning d.lower.lower) in
-    let m' = gated d'.shut (g.D.Device.meaning d'.lower) in
-    let after : g.D.Device.kept d'.lower × Within d.base d.most m' = (c.collect.ensures.keeps k.0, subst (Within d.base d.most) (sym (c.collect.ensures.leaves k.0)) (collect_within d.base d.most _ c.args.tag (length c.args.buffer.now) k.1)) in
+    let d' = c.collect.new.lower in
+    let m = gated d.shut (g.D.Device.meaning d.lower) in
+    let m' = gated d.shut (g.D.Device.meaning d') in
+    let after : g.D.Device.kept d' × Within d.base d.most m' = (c.collect.ensures.keeps k.0, subst (Within d.base d.most) (sym (c.collect.ensures.leaves k.0)) (collect_within d.base d.most _ c.args.tag (length c.args.buffer.now) k.1)) in
     let h = height_collected m m' c.args.tag (length c.args.buffer.now) (c.collect.ensures.leaves k.0) in
     mapped _ (layer_height m'.height) c.collect.result c.map_err.result c.map_err.ensures.cases (λ f y s. search (rules, after))
     ∙ (ap₂ at_height (ap layer_height h) (c.collect.ensures.answers k.0) ∙ collect_answers d.base d.most _ c.args.tag (length c.args.buffer.now))
@@ -25,7 +25,7 @@ returns-clause-answers g c = λ k.
 pub returns-clause-hands : goal.returns-clause-hands
 returns-clause-hands g c = λ k.
     let d = c.args.self.now in
-    c.collect.ensures.hands k.0 ∙ collect_hands d.base d.most (gated d.lower.shut (g.D.Device.meaning d.lower.lower)) c.args.tag c.args.buffer.now
+    c.collect.ensures.hands k.0 ∙ collect_hands d.base d.most (gated d.shut (g.D.Device.meaning d.lower)) c.args.tag c.args.buffer.now
 
 pub returns-clause-leaves : goal.returns-clause-leaves
 returns-clause-leaves g c = λ k.
