@@ -93,6 +93,6 @@ answered (Err f) = 0
 abbrev pub shut_both : Meaning → Meaning → Bool
 shut_both a b = (nat_lt 0 (length a.tickets) || nat_lt 0 (length b.tickets)) || min a.capacity b.capacity == 0
 
--- the meaning of a mirror at set-up: over gates that are shut together
+-- the meaning of a mirror at set-up: over sides that are as they are, or shut together
 abbrev pub set_up : Meaning → Meaning → Meaning
 set_up a b = mirrored (gated (shut_both a b) a) (gated (shut_both a b) b)

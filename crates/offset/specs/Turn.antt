@@ -1,4 +1,4 @@
--- What a call of an offset does beyond its meaning: it is the same call of the gate below, told the same tick.
+-- What a call of an offset does beyond its meaning: it is the same call of what is below, as it is or shut, told the same tick.
 use Rattle.std.specs.Prelude.{◌≡◌, ℕ, ◌+◌, ◌⊎◌, cond, Ok, Err, ◌==◌}
 use Rattle.device.specs.declared.interface.Kind.TheVariants.{Flush}
 use Rattle.device.specs.declared.interface.Request.{Request}

@@ -29,7 +29,7 @@ impl<D: Device> Device for Offset<D> {
 
     ghost sound = { λ d k. over_sound d.base d.most (gated d.shut (D.Device.meaning d.lower)) (gated_sound d.shut (D.Device.meaning d.lower) (D.Device.sound d.lower k.0)) k.1 };
 
-    ghost does = { λ d e x. Acts d.base (λ l. gated d.shut (D.Device.meaning l)) (λ l e y. Passed D.Device.does d.shut l e x.shut y) d.lower e x.lower };
+    ghost does = { λ d e x. (x.shut ≡ d.shut) × Acts d.base (λ l. gated d.shut (D.Device.meaning l)) (λ l e y. Passed D.Device.does d.shut l e x.shut y) d.lower e x.lower };
 
     fn size(&self) -> u32 {
         self.most.min(self.lower.size().saturating_sub(self.base))

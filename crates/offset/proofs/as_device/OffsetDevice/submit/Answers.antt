@@ -1,4 +1,4 @@
-use Rattle.std.proofs.Common.{length, rules, sym, ap, ◌∙◌, subst, ap₂}
+use Rattle.std.proofs.Common.{length, rules, refl, sym, ap, ◌∙◌, subst, ap₂}
 use Rattle.device.specs.declared.interface.Request.{Request}
 use Rattle.device.specs.Layers.{layer_height}
 use Rattle.device.specs.Submit.{form}
@@ -46,6 +46,8 @@ returns-clause-leaves g c = λ k.
 
 pub returns-clause-did : goal.returns-clause-did
 returns-clause-did g c = λ k.
-    let d = c.args.self.now in
-    acted d.base (λ l. gated d.shut (g.D.Device.meaning l)) (λ l e x. Passed g.D.Device.does d.shut l e d.shut x) d.lower c.submit.new.lower c.args.request _ c.args.bytes.now c.args.tick (sent g (goal.at.returns-clause-did g c).After-submit k).sent
-    _ c.submit.result c.map_err-2.result c.map_err-2.ensures.cases (c.submit.ensures.did k.0)
+    let d = c.args.self.now in (
+      refl,
+      acted d.base (λ l. gated d.shut (g.D.Device.meaning l)) (λ l e x. Passed g.D.Device.does d.shut l e d.shut x) d.lower c.submit.new.lower c.args.request _ c.args.bytes.now c.args.tick (sent g (goal.at.returns-clause-did g c).After-submit k).sent
+          _ c.submit.result c.map_err-2.result c.map_err-2.ensures.cases (c.submit.ensures.did k.0),
+    )
